@@ -1,0 +1,12 @@
+//! Octets, numbers on the wire, names, and the reader and writer that everything else stands on.
+#![tactic(auto)]
+
+mod memory;
+mod names;
+mod numbers;
+mod octet_string;
+
+pub use memory::NoMemory;
+pub use names::{is_identity, is_session_text};
+pub use numbers::{get_u16, get_u24, get_u32, get_u64, put_u16, put_u24, put_u32, put_u64};
+pub use octet_string::Octets;
