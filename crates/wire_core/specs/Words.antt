@@ -1,5 +1,5 @@
 -- The two kinds of name that settings and carriers hold (profile).
-use Rattle.std.specs.Prelude.{◌≡◌, ℕ, ◌≤◌, Bool, ◌==◌, nat_le, ◌&&◌, ◌||◌, List, length}
+use Rattle.std.specs.Prelude.{ℕ, Bool, ◌==◌, nat_le, ◌&&◌, ◌||◌, List, length}
 use Rattle.std.specs.List.{list_all}
 
 abbrev pub is_letter_or_digit : ℕ → Bool
@@ -13,6 +13,10 @@ is_identity_octet c = is_letter_or_digit c || c == 45 || c == 46 || c == 95
 abbrev pub is_identity : List ℕ → Bool
 is_identity xs = nat_le 1 (length xs) && nat_le (length xs) 255 && list_all is_identity_octet xs
 
--- a Session-Id as a carrier holds it: one or more octets, each visible in ASCII
+-- visible in ASCII: 0x21 to 0x7e
+abbrev pub is_visible : ℕ → Bool
+is_visible c = nat_le 33 c && nat_le c 126
+
+-- a Session-Id as a carrier holds it: one or more visible octets
 abbrev pub is_session_text : List ℕ → Bool
-is_session_text xs = nat_le 1 (length xs) && list_all (λ c. nat_le 33 c && nat_le c 126) xs
+is_session_text xs = nat_le 1 (length xs) && list_all is_visible xs

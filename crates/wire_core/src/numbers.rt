@@ -36,35 +36,47 @@ pub fn get_u64(octets: &[u8], place: usize) -> u64
     get_u32(octets, place) as u64 * 4_294_967_296 + get_u32(octets, place + 4) as u64
 }
 
+/// Puts these octets at `place`, over the ones that stand there.
+pub(crate) fn put(octets: &mut [u8], place: usize, from: &[u8])
+    requires { place + length from.now ≤ length octets.old }
+    ensures { octets.new ≡ take place octets.old ++ from.now ++ drop (place + length from.now) octets.old }
+{
+    octets[place..place + from.len()].copy_from_slice(from);
+}
+
 /// Writes the number into the two octets at `place`.
+#[tactic(auto, unfolding(crate::specs::Numbers::u16))]
 pub fn put_u16(octets: &mut [u8], place: usize, value: u16)
     requires { place + 2 ≤ length octets.old }
     ensures { octets.new ≡ take place octets.old ++ text16 value ++ drop (place + 2) octets.old }
 {
-    octets[place..place + 2].copy_from_slice(&value.to_be_bytes());
+    put(octets, place, &value.to_be_bytes());
 }
 
 /// Writes the number, which is below 2^24, into the three octets at `place`.
+#[tactic(auto, unfolding(crate::specs::Numbers::u24))]
 pub fn put_u24(octets: &mut [u8], place: usize, value: u32)
     requires inside { place + 3 ≤ length octets.old }
     requires small { value < 2 ^ 24 }
     ensures { octets.new ≡ take place octets.old ++ text24 value ++ drop (place + 3) octets.old }
 {
-    octets[place..place + 3].copy_from_slice(&value.to_be_bytes()[1..]);
+    put(octets, place, &value.to_be_bytes()[1..]);
 }
 
 /// Writes the number into the four octets at `place`.
+#[tactic(auto, unfolding(crate::specs::Numbers::u32))]
 pub fn put_u32(octets: &mut [u8], place: usize, value: u32)
     requires { place + 4 ≤ length octets.old }
     ensures { octets.new ≡ take place octets.old ++ text32 value ++ drop (place + 4) octets.old }
 {
-    octets[place..place + 4].copy_from_slice(&value.to_be_bytes());
+    put(octets, place, &value.to_be_bytes());
 }
 
 /// Writes the number into the eight octets at `place`.
+#[tactic(auto, unfolding(crate::specs::Numbers::u64))]
 pub fn put_u64(octets: &mut [u8], place: usize, value: u64)
     requires { place + 8 ≤ length octets.old }
     ensures { octets.new ≡ take place octets.old ++ text64 value ++ drop (place + 8) octets.old }
 {
-    octets[place..place + 8].copy_from_slice(&value.to_be_bytes());
+    put(octets, place, &value.to_be_bytes());
 }

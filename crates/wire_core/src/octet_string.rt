@@ -6,6 +6,7 @@ ghost use Rattle.std.specs.Cmp.{partial_equiv_from_equiv};
 ghost use Rattle.std.specs.Cmp.Lexicographic.{pointwise, nat_list_eq_equiv};
 
 use crate::memory::NoMemory;
+use crate::numbers::put;
 use std::alloc::Global;
 use std::marker::Model;
 
@@ -58,8 +59,7 @@ impl Octets {
         requires { place + length from.now ≤ length self.old }
         ensures { self.new ≡ take place self.old ++ from.now ++ drop (place + length from.now) self.old }
     {
-        let octets = self.octets.as_mut_slice();
-        octets[place..place + from.len()].copy_from_slice(from);
+        put(self.octets.as_mut_slice(), place, from);
     }
 }
 
