@@ -1,0 +1,57 @@
+//! Attributes that carry a session through a RADIUS client (profile).
+
+ghost use Rattle.std.specs.Prelude.{◌≡◌, ◌<◌, ◌↔◌, length, IfOk, IsErrOf};
+ghost use Rattle.session_carrier.specs.Session.{class_text};
+
+use std::alloc::{AllocError, Global};
+use std::error::Error;
+use std::fmt;
+use wire_core::Octets;
+
+const PREFIX: &[u8] = b"Diameter/";
+
+/// How many octets the value of a RADIUS attribute has at most (RFC 2865, section 5).
+const LONGEST_VALUE: usize = 253;
+
+#[derive(Clone, Copy, Debug, PartialEq, Eq, Hash)]
+pub enum CarrierFault {
+    /// The value would have more than 253 octets.
+    TooLong,
+    NoMemory,
+}
+
+impl fmt::Display for CarrierFault {
+    fn fmt<W: fmt::Write>(&self, f: &mut fmt::Formatter<W>) -> fmt::Result {
+        match self {
+            CarrierFault::TooLong => write!(f, "the value has more than 253 octets"),
+            CarrierFault::NoMemory => write!(f, "out of memory"),
+        }
+    }
+}
+
+impl Error for CarrierFault {}
+
+impl From<AllocError> for CarrierFault {
+    ghost use Rattle.std.specs.Prelude.{◌≡◌};
+    ghost use Rattle.session_carrier.specs.declared.carrier.CarrierFault.TheVariants.{NoMemory};
+
+    ghost from_gives = { λ _ e. e ≡ NoMemory };
+
+    fn from(_e: AllocError) -> CarrierFault {
+        CarrierFault::NoMemory
+    }
+}
+
+/// The Class `Diameter/` and the session.
+#[tactic(auto, unfolding(crate::specs::Session::class_text))]
+pub fn class_of(alloc: Global, session: &[u8]) -> Result<Octets, CarrierFault>
+    ensures ok { IfOk result (λ c. c ≡ class_text session.now) }
+    ensures too_long { IsErrOf result CarrierFault.TooLong ↔ (253 < length (class_text session.now)) }
+{
+    if session.len() > LONGEST_VALUE - PREFIX.len() {
+        return Err(CarrierFault::TooLong);
+    }
+    let mut class = Vec::from_slice(alloc, PREFIX)?;
+    class.extend_from_slice(session)?;
+    Ok(Octets::from_vec(class))
+}
