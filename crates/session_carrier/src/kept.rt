@@ -36,7 +36,7 @@ pub struct Kept {
 }
 
 /// The Hop-by-Hop and the End-to-End Identifier of a request (RFC 6733, section 3).
-#[derive(Clone, Copy, Debug)]
+#[derive(Clone, Copy, Debug, PartialEq, Eq)]
 pub struct Numbers {
     pub hop: u32,
     pub end: u32,

@@ -1,0 +1,47 @@
+//! The settings.
+
+ghost use Rattle.std.specs.Prelude.{◌≡◌};
+ghost use Rattle.agent_config.specs.Config as specs;
+
+use crate::client::is_name;
+use crate::clients::Clients;
+use wire_core::Octets;
+
+/// The settings of an agent.
+#[derive(Clone, Debug, Drop)]
+pub struct Config {
+    /// The Origin-Host of the agent's own messages.
+    pub host: Octets,
+    /// The Origin-Realm of the agent's own messages.
+    pub realm: Octets,
+    /// The Destination-Realm of a request that names none.
+    pub home_realm: Octets,
+    /// The agent's IPv4 address.
+    pub address: u32,
+    /// A number that rises with each start of the agent, where it is set.
+    pub boot: Option<u32>,
+    /// How long an entry lives, in milliseconds.
+    pub retention: u64,
+    /// How many entries live at once.
+    pub capacity: u32,
+    /// How many messages wait for the link at once.
+    pub backlog: u32,
+    /// How long the peer may be silent, in milliseconds.
+    pub watchdog: u64,
+    pub clients: Clients,
+}
+
+/// Whether the settings, but for the clients, are within the limits: names of at most 64 octets, a
+/// retention of 1,000 to 300,000 ms, a capacity of 1 to 65,536, a backlog of 2 to 65,536 and a
+/// watchdog of 6,000 to 600,000 ms.
+pub fn is_in_limits(config: &Config) -> bool
+    ensures { result ≡ specs.are_settings_in_limits config.now }
+{
+    is_name(config.host.as_slice())
+        && is_name(config.realm.as_slice())
+        && is_name(config.home_realm.as_slice())
+        && (1_000..=300_000).contains(&config.retention)
+        && (1..=65_536).contains(&config.capacity)
+        && (2..=65_536).contains(&config.backlog)
+        && (6_000..=600_000).contains(&config.watchdog)
+}
