@@ -38,7 +38,7 @@ found : (address first place : ℕ) (clients : List Client) (client : Client) �
 found address first place [] client h = cc
 found address first place (c ∷ cs) client h =
     elim (cases_Bool (eqb c.address address)) [
-      | inl same ↦ (let here : Some (first, c) ≡ Some (place, client) = rw same at h in
+      | inl same ↦ (let here : ◌≡◌ {A = Option (ℕ × Client)} (Some (first, c)) (Some (place, client)) = rw same at h in
           let pair = ap (λ (o : Option (ℕ × Client)). unwrap_or o (first, c)) here in
           let place_is : first ≡ place = ap (λ (p : ℕ × Client). p.0) pair in
           let client_is : c ≡ client = ap (λ (p : ℕ × Client). p.1) pair in
@@ -73,7 +73,7 @@ distinct-push : (first : ℕ) (clients : List Client) (client : Client) → are_
 distinct-push first [] client distinct new = refl
 distinct-push first (c ∷ cs) client distinct new =
     elim (cases_Bool (eqb c.address client.address)) [
-      | inl same ↦ (let here : Some (first, c) ≡ None = rw same at new in cc)
+      | inl same ↦ (let here : ◌≡◌ {A = Option (ℕ × Client)} (Some (first, c)) None = rw same at new in cc)
       | inr other ↦ (let p = and_parts (not (list_any (λ d. eqb d.address c.address) cs)) (are_addresses_distinct cs) distinct in
           and_from _ _
           (rw (list_any-append (λ (d : Client). eqb d.address c.address) cs (client ∷ [])) (grind (arith, nat_tests)))
@@ -81,6 +81,7 @@ distinct-push first (c ∷ cs) client distinct new =
     ]
 
 pub client_keeps_limits : ClientKeepsLimits
+unfolding are_settings_in_limits
 client_keeps_limits config client within own few new =
     record {
       settings = within.settings;
@@ -119,6 +120,7 @@ pub record SettingsFacts (c : Config) : Type 0 where
   pub watchdog_high : c.watchdog ≤ 600000
 
 pub settings_facts : (c : Config) → IsTrue (are_settings_in_limits c) → SettingsFacts c
+unfolding are_settings_in_limits
 settings_facts c h =
     let a = and_parts _ (is_between 6000 600000 c.watchdog) h in
     let b = and_parts _ (is_between 2 65536 c.backlog) a.0 in
@@ -154,6 +156,7 @@ pub record ClientFacts (c : Client) : Type 0 where
   pub nas_high : length c.nas ≤ 64
 
 pub client_facts : (c : Client) → ClientInLimits c → ClientFacts c
+unfolding is_client_in_limits
 client_facts c h =
     let a = and_parts _ (nat_le (length c.nas) 64) h in
     let b = and_parts _ (is_between 1 128 (length c.secret)) a.0 in

@@ -16,13 +16,13 @@ is_between low high n = nat_le low n && nat_le n high
 abbrev pub is_name : List ℕ → Bool
 is_name xs = is_identity xs && nat_le (length xs) 64
 
-abbrev pub is_client_in_limits : Client → Bool
+unfoldable pub is_client_in_limits : Client → Bool
 is_client_in_limits c =
     is_name c.name && is_name c.origin_host && is_name c.origin_realm
     && is_between 1 128 (length c.secret) && nat_le (length c.nas) 64
 
 -- all but the clients; times are milliseconds
-abbrev pub are_settings_in_limits : Config → Bool
+unfoldable pub are_settings_in_limits : Config → Bool
 are_settings_in_limits c =
     is_name c.host && is_name c.realm && is_name c.home_realm
     && is_between 1000 300000 c.retention && is_between 1 65536 c.capacity

@@ -35,6 +35,7 @@ pub(crate) fn is_name(octets: &[u8]) -> bool
 
 /// Whether the client is within the limits: names of at most 64 octets, a secret of 1 to 128, at
 /// most 64 addresses.
+#[tactic(auto, unfolding(crate::specs::Config::is_client_in_limits))]
 pub fn is_client_in_limits(client: &Client) -> bool
     ensures { result ≡ specs.is_client_in_limits client.now }
 {

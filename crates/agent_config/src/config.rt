@@ -34,6 +34,7 @@ pub struct Config {
 /// Whether the settings, but for the clients, are within the limits: names of at most 64 octets, a
 /// retention of 1,000 to 300,000 ms, a capacity of 1 to 65,536, a backlog of 2 to 65,536 and a
 /// watchdog of 6,000 to 600,000 ms.
+#[tactic(auto, unfolding(crate::specs::Config::are_settings_in_limits))]
 pub fn is_in_limits(config: &Config) -> bool
     ensures { result ≡ specs.are_settings_in_limits config.now }
 {

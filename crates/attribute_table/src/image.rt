@@ -1,0 +1,110 @@
+//! What a value of RADIUS becomes in Diameter.
+
+ghost use Rattle.std.specs.Prelude.{◌≡◌, length};
+ghost use Rattle.std.specs.Str.{is_utf8};
+ghost use Rattle.attribute_table.specs.Images as images;
+
+use crate::row::{Kind, Row};
+use std::marker::Model;
+use thiserror::Error;
+use wire_core::{get_u32, put_u32};
+
+/// From 1900, where Diameter counts from, to 1970, in seconds (RFC 6733, section 4.3.1).
+const SECONDS_TO_1970: u32 = 2_208_988_800;
+
+/// Why a value isn't translated.
+#[derive(Clone, Copy, Debug, PartialEq, Eq, Error)]
+pub enum RowFault {
+    #[error("the value has a wrong size")]
+    BadSize,
+    #[error("the text isn't UTF-8")]
+    BadText,
+    #[error("the value has more than 253 octets")]
+    TooLong,
+}
+
+#[derive(Clone, Copy, Debug)]
+enum Held<'a> {
+    Borrowed(&'a [u8]),
+    Made([u8; 4]),
+}
+
+/// A translated value. Contracts see it as its octets.
+#[derive(Debug, Drop)]
+pub struct Image<'a> {
+    held: Held<'a>,
+}
+
+impl<'a> Model for Image<'a> {
+    ghost use Rattle.std.specs.Prelude.{List, ℕ};
+    ghost use Rattle.attribute_table.specs.Held.{held_octets};
+
+    ghost Value = { List ℕ };
+
+    ghost view = { λ i. held_octets i.held };
+}
+
+impl<'a> Image<'a> {
+    /// The octets.
+    pub fn octets(&self) -> &[u8]
+        ensures { result.now ≡ self.now }
+    {
+        match &self.held {
+            Held::Borrowed(octets) => octets,
+            Held::Made(octets) => octets,
+        }
+    }
+}
+
+/// Whether these octets are UTF-8.
+fn is_text(value: &[u8]) -> bool
+    ensures { result ≡ is_utf8 value.now }
+{
+    std::str::from_utf8(value).is_ok()
+}
+
+/// Whether these octets are a value of this kind.
+fn is_of_kind(kind: Kind, value: &[u8]) -> bool
+    ensures { result ≡ images.is_of_kind kind value.now }
+{
+    match kind {
+        Kind::Text => is_text(value),
+        Kind::Plain => true,
+        Kind::Four | Kind::Time => value.len() == 4,
+        Kind::Eight => value.len() == 8,
+        Kind::Sixteen => value.len() == 16,
+        Kind::Prefix => (2..=18).contains(&value.len()),
+    }
+}
+
+/// Seconds from 1970 as seconds from 1900.
+fn later(value: &[u8]) -> [u8; 4]
+    requires { length value.now ≡ 4 }
+    ensures { result ≡ images.diameter_value Kind.Time value.now }
+{
+    let mut octets = [0; 4];
+    put_u32(
+        &mut octets,
+        0,
+        get_u32(value, 0).wrapping_add(SECONDS_TO_1970),
+    );
+    octets
+}
+
+/// The data of the AVP that an attribute with this value becomes.
+#[tactic(auto, unfolding(crate::specs::Images::forward_image))]
+pub fn forward<'a>(row: &Row, value: &'a [u8]) -> Result<Image<'a>, RowFault>
+    ensures { result ≡ images.forward_image row.now value.now }
+{
+    if !is_of_kind(row.kind, value) {
+        return Err(match row.kind {
+            Kind::Text => RowFault::BadText,
+            _ => RowFault::BadSize,
+        });
+    }
+    let held = match row.kind {
+        Kind::Time => Held::Made(later(value)),
+        _ => Held::Borrowed(value),
+    };
+    Ok(Image { held })
+}
