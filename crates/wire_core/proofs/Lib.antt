@@ -1,1 +1,5 @@
+pub mod CountLaws
+mod MemoryLaws
 pub mod NumberLemmas
+pub mod SinkLaws
+pub mod SourceLaws

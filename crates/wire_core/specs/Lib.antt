@@ -1,2 +1,6 @@
+pub mod Counts
+pub mod Forms
 pub mod Numbers
+pub mod Sink
+pub mod Source
 pub mod Words
