@@ -1,0 +1,4 @@
+pub mod Drafts
+pub mod Packets
+pub mod Reading
+pub mod Signing

@@ -1,0 +1,4 @@
+pub mod Packet
+pub mod Reasons
+pub mod Seals
+pub mod Views
