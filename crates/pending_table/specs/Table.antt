@@ -1,9 +1,9 @@
 -- The table of requests that were taken up, as the list of its entries in the order of taking (profile).
 use Rattle.std.specs.Prelude.{ℕ, ◌+◌, Bool, true, false, nat_lt, ◌==◌, nat_eq, ◌&&◌, List, [], ◌∷◌, filter, find, Option, Some, None, if◌then◌else◌}
 use Rattle.std.specs.Cmp.Lexicographic.{pointwise}
-use Rattle.radius_packet.specs.declared.Via.{Via}
-use Rattle.radius_packet.specs.declared.Via.TheVariants.{Auth, Acct}
-use Rattle.session_carrier.specs.declared.Kept.{Kept}
+use Rattle.radius_packet.specs.declared.reasons.Via.{Via}
+use Rattle.radius_packet.specs.declared.reasons.Via.TheVariants.{Auth, Acct}
+use Rattle.session_carrier.specs.declared.kept.Kept.{Kept}
 use Rattle.pending_table.specs.declared.Key.{Key}
 use Rattle.pending_table.specs.declared.Entry.{Entry}
 use Rattle.pending_table.specs.declared.Answer.{Answer}

@@ -134,12 +134,11 @@ impl Table {
         count_waiting(&self.entries, self.retention, moment) as u32
     }
 
-    /// What is kept of the live request that waits for the answer with this number on this link.
-    pub fn find(&self, link: u64, number: u32, moment: u64) -> Option<&Kept>
-        ensures { option_copied result ≡ option_map (λ e. e.kept) (parts.find_number self.now link number moment) }
+    /// The live request that waits for the answer with this number on this link.
+    pub fn find(&self, link: u64, number: u32, moment: u64) -> Option<&Entry>
+        ensures { option_copied result ≡ parts.find_number self.now link number moment }
     {
-        let entry = find_waiting(&self.entries, link, number, self.retention, moment)?;
-        Some(&entry.kept)
+        find_waiting(&self.entries, link, number, self.retention, moment)
     }
 
     /// Drops the dead entries and takes up a request, which then waits. After an `Err` the table is as it was.
@@ -286,7 +285,7 @@ mod tests {
         let mut table = Table::new(rt.alloc(), random, 2, 1000)?;
         table.admit(key(rt.alloc(), Via::Auth)?, 1, 0, kept(rt.alloc(), 7)?, 0)?;
         table.admit(key(rt.alloc(), Via::Acct)?, 1, 1, kept(rt.alloc(), 8)?, 0)?;
-        assert!(rt; matches!(table.find(1, 0, 0), Some(k) if k.id == 7));
+        assert!(rt; matches!(table.find(1, 0, 0), Some(e) if e.kept.id == 7));
         table.settle(1, 0, 0, Some(Octets::copy(rt.alloc(), b"reply")?));
         table.settle(1, 1, 0, None);
         assert!(rt;
