@@ -1,0 +1,4 @@
+pub mod CallerLemmas
+pub mod ItemLemmas
+pub mod TextLemmas
+pub mod WriterLemmas

@@ -1,0 +1,4 @@
+pub mod Avps
+pub mod Reading
+pub mod View
+pub mod Writer

@@ -1,0 +1,25 @@
+//! Laws of the definitions, for every list.
+
+ghost use Rattle.std.specs.Prelude.{◌≡◌, ◌++◌, ℕ, List, Ok};
+ghost use Rattle.wire_core.specs.Numbers.{AreOctets};
+ghost use Rattle.diameter_avp.specs.Avps.{AvpParts, IsAvps, avps_text, read_avps};
+
+/// Octets are read as the AVPs that they are, and as no others.
+pub fn one_reading()
+    ensures read { (octets : List ℕ) (avps : List AvpParts)
+        → IsAvps octets avps → read_avps octets ≡ Ok avps }
+    ensures only { (octets : List ℕ) (avps : List AvpParts)
+        → AreOctets octets → read_avps octets ≡ Ok avps → IsAvps octets avps }
+{}
+
+/// What is written of AVPs is read as them, wherever any octets are these AVPs.
+pub fn written_is_read()
+    ensures { (octets : List ℕ) (avps : List AvpParts)
+        → IsAvps octets avps → read_avps (avps_text avps) ≡ Ok avps }
+{}
+
+/// The text of two lists is the one text and then the other.
+pub fn text_by_parts()
+    ensures { (first second : List AvpParts)
+        → avps_text (first ++ second) ≡ avps_text first ++ avps_text second }
+{}

@@ -1,0 +1,102 @@
+ghost use Rattle.std.specs.Prelude.{◌≡◌, fold};
+ghost use Rattle.diameter_avp.specs.Avps.{avps_fault, readable_avps, unless_fault};
+
+use super::*;
+use std::test::Fail;
+
+// The AVPs of an AA-Answer, and one of vendor 9 without the M flag.
+const AVPS: &[u8] = b"\x00\x00\x01\x07\x40\x00\x00\x19agent.example;7;0\x00\x00\x00\
+    \x00\x00\x01\x02\x40\x00\x00\x0c\x00\x00\x00\x01\
+    \x00\x00\x01\x0c\x40\x00\x00\x0c\x00\x00\x07\xd1\
+    \x00\x00\x00\x01\x80\x00\x00\x0f\x00\x00\x00\x09abc\x00";
+
+// The code of the last AVP, or the list's fault: a loop over a list as callers write it.
+fn last_code(octets: &[u8]) -> Result<u32, AvpFault>
+    ensures { result
+        ≡ unless_fault (avps_fault octets.now) (fold (λ _ a. a.code) 0 (readable_avps octets.now)) }
+{
+    let mut code = 0;
+    for item in avps(octets) {
+        code = item?.code;
+    }
+    Ok(code)
+}
+
+#[test]
+fn reads_each_avp(rt: HostRuntime) {
+    let mut items = avps(AVPS);
+    let wanted: [(u32, Option<u32>, u8, &[u8]); 4] = [
+        (263, None, 0x40, b"agent.example;7;0"),
+        (258, None, 0x40, b"\x00\x00\x00\x01"),
+        (268, None, 0x40, b"\x00\x00\x07\xd1"),
+        (1, Some(9), 0x80, b"abc"),
+    ];
+    for (code, vendor, flags, body) in wanted {
+        match items.next() {
+            Some(Ok(avp)) => {
+                assert_eq!(rt; avp.code, code);
+                assert_eq!(rt; avp.vendor, vendor);
+                assert_eq!(rt; avp.flags, flags);
+                assert_eq!(rt; avp.mandatory, flags == 0x40);
+                assert_eq!(rt; avp.body, body);
+            }
+            _ => assert!(rt; false, "AVP {code}"),
+        }
+    }
+    assert!(rt; items.next().is_none());
+    assert_eq!(rt; last_code(AVPS), Ok(1));
+}
+
+#[test]
+fn names_the_first_fault(rt: HostRuntime) {
+    let cases: [(&[u8], Result<(), AvpFault>); 9] = [
+        (b"", Ok(())),
+        (AVPS, Ok(())),
+        (&AVPS[..67], Err(AvpFault::BadLength { place: 52 })),
+        (&AVPS[..59], Err(AvpFault::Short { place: 52 })),
+        (
+            b"\x00\x00\x01\x07\x40\x00\x00",
+            Err(AvpFault::Short { place: 0 }),
+        ),
+        (
+            b"\x00\x00\x01\x07\x40\x00\x00\x07",
+            Err(AvpFault::BadLength { place: 0 }),
+        ),
+        (
+            b"\x00\x00\x01\x07\xc0\x00\x00\x0b\x00\x00\x00\x09",
+            Err(AvpFault::BadLength { place: 0 }),
+        ),
+        (
+            b"\x00\x00\x01\x07\x40\x00\x00\x09a",
+            Err(AvpFault::BadLength { place: 0 }),
+        ),
+        (b"\x00\x00\x01\x07\x40\x00\x00\x09a\xff\xff\xff", Ok(())),
+    ];
+    for (octets, wanted) in cases {
+        assert_eq!(rt; check_avps(octets), wanted);
+    }
+}
+
+#[test]
+fn writes_each_avp(rt: HostRuntime) -> Result<(), Fail> {
+    let mut writer = AvpWriter::new(rt.alloc(), b"front")?;
+    writer.put(263, None, true, b"agent.example;7;0")?;
+    writer.put(258, None, true, b"\x00\x00\x00\x01")?;
+    writer.put(268, None, true, b"\x00\x00\x07\xd1")?;
+    writer.put(1, Some(9), false, b"abc")?;
+    let octets = writer.finish();
+    assert_eq!(rt; octets.len(), 73);
+    assert_eq!(rt; &octets.as_slice()[..5], b"front".as_slice());
+    assert_eq!(rt; &octets.as_slice()[5..], AVPS);
+    Ok(())
+}
+
+#[test]
+fn fills_a_list(rt: HostRuntime) -> Result<(), Fail> {
+    let body = vec![in rt.alloc(); 7; 65_508]?;
+    let mut writer = AvpWriter::new(rt.alloc(), b"")?;
+    writer.put(1, None, true, &body)?;
+    assert_eq!(rt; writer.put(1, None, true, b""), Err(WriteFault::TooLong));
+    assert_eq!(rt; writer.finish().len(), 65_516);
+    Ok(())
+}

@@ -1,0 +1,4 @@
+pub mod Lending
+pub mod Message
+pub mod View
+pub mod Writer

@@ -1,0 +1,20 @@
+//! Diameter messages (RFC 6733, section 3): read in place and written.
+//!
+//! A message is written by `MessageWriter::new`, a `put` for each AVP and `finish`. Contracts see
+//! the writer as `begun` of its header and the list of its AVPs, and `finish` gives `message_text`
+//! of the two. The writer of the AVPs itself is lent by `avps`; a caller that keeps its front, as
+//! its `put` does, may finish the message too.
+#![tactic(auto)]
+
+mod fault;
+mod header;
+mod message;
+mod writer;
+
+pub use fault::{FrameFault, MessageFault};
+pub use header::Header;
+pub use message::{Message, parse};
+pub use writer::MessageWriter;
+
+#[cfg(test)]
+mod tests;
