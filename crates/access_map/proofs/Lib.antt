@@ -1,0 +1,3 @@
+pub mod ClientLimits
+pub mod Room
+pub mod Summaries

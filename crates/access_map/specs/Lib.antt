@@ -1,0 +1,4 @@
+pub mod Answers
+pub mod Requests
+pub mod Summary
+pub mod Writing

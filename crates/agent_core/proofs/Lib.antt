@@ -1,0 +1,11 @@
+pub mod Lists
+pub mod Updates
+pub mod Soundness
+pub mod Simulation
+pub mod Histories
+pub mod Limits
+pub mod Considered
+pub mod Steady
+pub mod Promises
+pub mod Judged
+pub mod Few

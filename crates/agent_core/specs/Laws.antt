@@ -1,0 +1,11 @@
+-- Laws of the rule, for every history.
+use Rattle.std.specs.Prelude.{◌≤◌, List, length}
+use Rattle.agent_config.specs.declared.config.Config.{Config}
+use Rattle.agent_core.specs.History.{Event, Place, place}
+
+abbrev pub IsFew : Place → Type 0
+IsFew p = length p.outputs ≤ 2
+
+-- an event has at most two outputs
+abbrev pub OutputsAreFew : Type 0
+OutputsAreFew = (config : Config) (ps : List Place) (e : Event) → IsFew (place config ps e)

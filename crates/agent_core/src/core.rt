@@ -1,0 +1,89 @@
+//! The core: one step of the agent.
+
+ghost use Rattle.std.specs.Prelude.{◌≡◌, ◌++◌, [], ◌∷◌, List, IfOk, OnOk, OnErr, length, max};
+ghost use Rattle.agent_config.specs.Config.{InLimits};
+ghost use Rattle.pending_table.specs.Table as table;
+ghost use Rattle.agent_core.specs.History.{Event, outputs_after};
+ghost use Rattle.agent_core.specs.Standing.{StandsFor};
+
+use crate::events::{Input, Outputs};
+use crate::ledger::Ledger;
+use agent_config::Config;
+use peer_machine::Phase;
+use std::alloc::Global;
+use std::hash::RandomState;
+use std::marker::Model;
+use wire_core::NoMemory;
+
+/// The agent's state. Contracts see what it keeps, and say for which history it stands.
+#[derive(Debug, Drop)]
+pub struct Core {
+    ledger: Ledger,
+}
+
+impl Model for Core {
+    ghost use Rattle.agent_core.specs.declared.ledger.Ledger.{Ledger};
+    ghost use Rattle.agent_core.specs.Promise.{IsCore};
+
+    ghost Value = { Ledger };
+
+    ghost view = { λ c. c.ledger };
+
+    ghost invariant = { λ c. IsCore c.ledger };
+}
+
+impl Core {
+    /// A core before anything came in. A boot that isn't set is 0. `random` is for a table that hashes its keys.
+    pub fn new(alloc: Global, random: RandomState, config: Config) -> Result<Core, NoMemory>
+        requires { InLimits config }
+        ensures config { IfOk result (λ c. c.config ≡ config) }
+        ensures stands { IfOk result (λ c. StandsFor c []) }
+    {
+        let _boot = config.boot.unwrap_or(0);
+        let ledger = Ledger::new(alloc, random, config)?;
+        Ok(Core { ledger })
+    }
+
+    /// One step: what goes out for an input that comes at `moment`, in milliseconds, after a history. The
+    /// effective moment is the greatest so far. After an `Err` the core is as it was.
+    pub fn step(&mut self, alloc: Global, moment: u64, input: &Input) -> Result<Outputs, NoMemory>
+        ensures answers { (H : List Event) → StandsFor self.old H → IfOk result (λ o. o
+            ≡ outputs_after self.old.config H (record { moment = moment; input = input.now })) }
+        ensures stands { (H : List Event) → StandsFor self.old H
+            → OnOk result (StandsFor self.new (H ++ record { moment = moment; input = input.now } ∷ [])) }
+        ensures config { self.new.config ≡ self.old.config }
+        ensures err { OnErr result (self.new ≡ self.old) }
+    {
+        agent_config::found_stands_at_place();
+        session_carrier::fresh_sessions_are_short();
+        self.ledger.step(alloc, moment, input)
+    }
+
+    /// Where the link to the home server stands.
+    pub fn phase(&self) -> Phase
+        ensures { result ≡ self.now.phase }
+    {
+        self.ledger.phase
+    }
+
+    /// What was sent on the link since the last Drain.
+    pub fn outbox(&self) -> u32
+        ensures { result ≡ self.now.outbox }
+    {
+        self.ledger.outbox
+    }
+
+    /// How many requests live at `moment`, or at the greatest moment so far where that is later.
+    pub fn live(&self, moment: u64) -> u32
+        ensures { result ≡ length (table.live self.now.table (max self.now.moment moment)) }
+    {
+        self.ledger.table.len(self.ledger.moment.max(moment))
+    }
+
+    /// How many of those wait for their answer.
+    pub fn waiting(&self, moment: u64) -> u32
+        ensures { result ≡ length (table.waiting self.now.table (max self.now.moment moment)) }
+    {
+        self.ledger.table.waiting(self.ledger.moment.max(moment))
+    }
+}

@@ -1,0 +1,437 @@
+//! What the core keeps of the history: the settings, a few counts and the live entries.
+
+ghost use Rattle.std.specs.Prelude.{◌≡◌, ℕ, ◌<◌, ◌≤◌, [], ◌∷◌, IfOk, Ok, OnOk, OnErr, Some, slice_get, length};
+ghost use Rattle.radius_packet.specs.declared.reasons.Reason.TheVariants.{NotYet};
+ghost use Rattle.diameter_message.specs.Message.{read_message};
+ghost use Rattle.diameter_message.specs.View.{message_view};
+ghost use Rattle.session_carrier.specs.Session.{fresh_session};
+ghost use Rattle.agent_config.specs.Config.{InLimits, ClientInLimits};
+ghost use Rattle.access_map.specs.Requests.{judgement};
+ghost use Rattle.access_map.specs.Answers as answers;
+ghost use Rattle.pending_table.specs.declared.Key.{Key};
+ghost use Rattle.agent_core.specs.History as history;
+ghost use Rattle.agent_core.specs.Machine as machine;
+ghost use Rattle.agent_core.specs.Standing.{IsSteady, KeptFits, start};
+ghost use Rattle.std.specs.Prelude.{None, is_none};
+ghost use Rattle.pending_table.specs.Table as table;
+ghost use Rattle.agent_core.specs.Considering.{Considers};
+ghost use Rattle.agent_core.specs.Matching.{Answers, Matches};
+ghost use Rattle.agent_core.specs.Verdicts.{request_with};
+
+use crate::events::{Input, Output, Outputs};
+use crate::verdict::{Request, verdict};
+use agent_config::Config;
+use diameter_message::{Header, Message};
+use peer_machine::Phase;
+use pending_table::{Entry, Found, Key, Table};
+use radius_packet::{Reason, Via};
+use session_carrier::{Kept, Kind2, Numbers, Outcome, Route};
+use std::alloc::Global;
+use std::hash::RandomState;
+use wire_core::{NoMemory, Octets};
+
+/// What is kept of the inputs so far.
+#[derive(Debug, Drop)]
+pub struct Ledger {
+    pub config: Config,
+    /// the greatest moment so far
+    pub moment: u64,
+    pub phase: Phase,
+    /// how many links began
+    pub link: u64,
+    /// the requests sent on this link
+    pub used: u32,
+    /// what was sent on this link since the last Drain
+    pub outbox: u32,
+    /// the requests sent since the start, modulo 2^32
+    pub total: u32,
+    /// the fresh sessions so far
+    pub serial: u64,
+    pub table: Table,
+}
+
+/// What a datagram leads to.
+#[derive(Drop)]
+pub(crate) enum Considered {
+    /// Nothing but these outputs.
+    Says(Outputs),
+    /// A request is taken up, with this key, and these outputs.
+    TakesUp {
+        key: Key,
+        kept: Kept,
+        outputs: Outputs,
+    },
+}
+
+/// One output that says why nothing is done.
+fn dropped(alloc: Global, reason: Reason) -> Result<Outputs, NoMemory>
+    ensures { IfOk result (λ o. o ≡ Output.Dropped reason ∷ []) }
+{
+    let mut outputs = Outputs::new(alloc);
+    outputs.push(Output::Dropped { reason })?;
+    Ok(outputs)
+}
+
+/// One message for the link.
+fn sending(alloc: Global, octets: Octets) -> Result<Outputs, NoMemory>
+    ensures { IfOk result (λ o. o ≡ Output.Send octets ∷ []) }
+{
+    let mut outputs = Outputs::new(alloc);
+    outputs.push(Output::Send { octets })?;
+    Ok(outputs)
+}
+
+/// One reply, to the place that the request came from.
+fn replying(alloc: Global, key: &Key, reply: &[u8]) -> Result<Outputs, NoMemory>
+    ensures { IfOk result (λ o. o ≡ history.reply_output key.now (Some reply.now)) }
+{
+    let octets = Octets::copy(alloc, reply)?;
+    let mut outputs = Outputs::new(alloc);
+    outputs.push(Output::Reply {
+        via: key.via,
+        address: key.address,
+        port: key.port,
+        octets,
+    })?;
+    Ok(outputs)
+}
+
+/// An answer to an AA-Request (RFC 6733, section 3).
+fn is_answer(header: &Header) -> bool
+    ensures { result ≡ answers.is_answer header.now }
+{
+    header.flags < 0x80 && header.command == 265
+}
+
+impl Ledger {
+    /// What is kept before anything came in.
+    pub(crate) fn new(
+        alloc: Global,
+        random: RandomState,
+        config: Config,
+    ) -> Result<Ledger, NoMemory>
+        ensures { IfOk result (λ s. s ≡ start config) }
+    {
+        let table = Table::new(alloc, random, config.capacity, config.retention)?;
+        Ok(Ledger {
+            config,
+            moment: 0,
+            phase: Phase::Closed,
+            link: 0,
+            used: 0,
+            outbox: 0,
+            total: 0,
+            serial: 0,
+            table,
+        })
+    }
+
+    /// Whether no live request has this key.
+    fn is_new(&self, key: &Key) -> bool
+        ensures { result ≡ is_none (table.find_key self.now.table key.now self.now.moment) }
+    {
+        matches!(self.table.look(key, self.moment), Found::New)
+    }
+
+    /// Why a new request is not taken up now.
+    fn refusal(&self) -> Option<Reason>
+        requires { self.now.table.capacity ≡ self.now.config.capacity }
+        ensures exact { result ≡ history.refusal self.now.config (machine.rooms_of self.now) }
+        ensures room { result ≡ None → length (table.live self.now.table self.now.moment) < self.now.table.capacity }
+    {
+        let waiting = self.table.waiting(self.moment) as u64;
+        if !matches!(self.phase, Phase::Serving) {
+            Some(Reason::LinkDown)
+        } else if 2_147_483_648 < self.used as u64 + waiting + 2 || self.serial == u64::MAX {
+            Some(Reason::Spent)
+        } else if self.table.is_full(self.moment) {
+            Some(Reason::Full)
+        } else if (self.config.backlog as u64) < self.outbox as u64 + waiting + 2 {
+            Some(Reason::Backlog)
+        } else {
+            None
+        }
+    }
+
+    /// The numbers of the next request.
+    fn numbers(&self) -> Numbers
+        ensures { result ≡ history.numbers_of self.now.config self.now.used self.now.total }
+    {
+        let boot = self.config.boot.unwrap_or(0);
+        Numbers {
+            hop: self.used,
+            end: (boot % 4096 * 1_048_576).wrapping_add(self.total),
+        }
+    }
+
+    /// What is sent for a request of this session.
+    fn translated<'a>(
+        &'a self,
+        alloc: Global,
+        request: &Request<'_>,
+        session: &'a [u8],
+    ) -> Result<Octets, NoMemory>
+        requires limits { InLimits self.now.config }
+        requires client { ClientInLimits request.now.settings.now }
+        requires judged { judgement request.now.settings.now request.now.packet ≡ Ok Kind2.Access }
+        requires fits { length session.now ≤ 244 }
+        requires fresh { session.now ≡ fresh_session self.now.config.host (history.boot self.now.config) self.now.serial }
+        ensures { (key : Key) → IfOk result (λ sent. sent
+            ≡ history.request_sent self.now.config (request_with key request.now) self.now.used self.now.total self.now.serial) }
+    {
+        let route = Route {
+            session,
+            realm: self.config.home_realm.as_slice(),
+            host: None,
+        };
+        access_map::request(
+            alloc,
+            request.settings,
+            &request.packet,
+            &route,
+            self.numbers(),
+        )
+    }
+
+    /// What is kept of a request, and what is sent for it.
+    fn prepare(&self, alloc: Global, request: &Request<'_>) -> Result<(Kept, Octets), NoMemory>
+        requires limits { InLimits self.now.config }
+        requires client { ClientInLimits request.now.settings.now }
+        requires judged { judgement request.now.settings.now request.now.packet ≡ Ok Kind2.Access }
+        ensures kept { (key : Key) → IfOk result (λ p. p.0
+            ≡ history.kept_of self.now.config (request_with key request.now) self.now.serial) }
+        ensures sent { (key : Key) → IfOk result (λ p. p.1
+            ≡ history.request_sent self.now.config (request_with key request.now) self.now.used self.now.total self.now.serial) }
+    {
+        session_carrier::fresh_sessions_are_short();
+        let boot = self.config.boot.unwrap_or(0);
+        let session = session_carrier::fresh(
+            alloc,
+            self.config.host.as_slice(),
+            boot,
+            self.serial,
+        )?;
+        let sent = self.translated(alloc, request, session.as_slice())?;
+        let kept = Kept {
+            kind: request.kind,
+            client: request.client,
+            id: request.packet.id(),
+            authenticator: request.packet.authenticator(),
+            proxy: Octets::copy(alloc, &[])?,
+            session,
+            realm: Octets::copy(alloc, self.config.home_realm.as_slice())?,
+            cause: 0,
+        };
+        Ok((kept, sent))
+    }
+
+    /// What a datagram leads to. Nothing is changed yet; a key that is known, or a refusal, isn't answered
+    /// otherwise in this form.
+    fn considered(
+        &self,
+        alloc: Global,
+        via: Via,
+        address: u32,
+        port: u16,
+        octets: &[u8],
+    ) -> Result<Considered, NoMemory>
+        requires { IsSteady self.now }
+        ensures { IfOk result (Considers self.now (history.verdict self.now.config via address port octets.now)) }
+    {
+        let request = match verdict(&self.config, via, address, octets) {
+            Err(reason) => return Ok(Considered::Says(dropped(alloc, reason)?)),
+            Ok(request) => request,
+        };
+        let key = Key {
+            via,
+            address,
+            port,
+            octets: Octets::copy(alloc, request.packet.whole())?,
+        };
+        if !self.is_new(&key) {
+            return Ok(Considered::Says(dropped(alloc, Reason::NotYet)?));
+        }
+        match self.refusal() {
+            Some(_) => Ok(Considered::Says(dropped(alloc, Reason::NotYet)?)),
+            None => {
+                let (kept, sent) = self.prepare(alloc, &request)?;
+                let outputs = sending(alloc, sent)?;
+                Ok(Considered::TakesUp { key, kept, outputs })
+            }
+        }
+    }
+
+    /// Takes a request up.
+    fn take_up(&mut self, key: Key, kept: Kept) -> Result<(), NoMemory>
+        requires steady { IsSteady self.old }
+        requires unknown { table.find_key self.old.table key self.old.moment ≡ None }
+        requires room { length (table.live self.old.table self.old.moment) < self.old.table.capacity }
+        requires admits { history.refusal self.old.config (machine.rooms_of self.old) ≡ None }
+        ensures ok { OnOk result (self.new ≡ machine.with_entry self.old (machine.new_entry self.old key kept)) }
+        ensures err { OnErr result (self.new ≡ self.old) }
+    {
+        self.table
+            .admit(key, self.link, self.used, kept, self.moment)?;
+        self.used += 1;
+        self.outbox += 1;
+        self.total = self.total.wrapping_add(1);
+        self.serial += 1;
+        Ok(())
+    }
+
+    /// A datagram came.
+    fn datagram(
+        &mut self,
+        alloc: Global,
+        via: Via,
+        address: u32,
+        port: u16,
+        octets: &[u8],
+    ) -> Result<Outputs, NoMemory>
+        requires { IsSteady self.old }
+        ensures outputs { IfOk result (λ o. o
+            ≡ (machine.datagram self.old (history.verdict self.old.config via address port octets.now)).outputs) }
+        ensures ledger { OnOk result (self.new
+            ≡ (machine.datagram self.old (history.verdict self.old.config via address port octets.now)).ledger) }
+        ensures err { OnErr result (self.new ≡ self.old) }
+    {
+        match self.considered(alloc, via, address, port, octets)? {
+            Considered::Says(outputs) => Ok(outputs),
+            Considered::TakesUp { key, kept, outputs } => {
+                self.take_up(key, kept)?;
+                Ok(outputs)
+            }
+        }
+    }
+
+    /// What an answer gives the request that it matches: the outputs, and the reply that is kept. None where the
+    /// answer is of a form that isn't built.
+    fn answered(
+        &self,
+        alloc: Global,
+        entry: &Entry,
+        message: &Message<'_>,
+    ) -> Result<Option<(Outputs, Octets)>, NoMemory>
+        requires { KeptFits self.now.config entry.now.kept }
+        ensures { IfOk result (λ o. Answers self.now entry.now (message_view message.now) o) }
+    {
+        if !access_map::is_built_answer(&entry.kept, message) {
+            return Ok(None);
+        }
+        let client = &self.config.clients.as_slice()[entry.kept.client as usize];
+        // In this form each answer has a reply, and nothing follows.
+        let Outcome {
+            reply,
+            follow: _follow,
+        } = access_map::answer(alloc, client, &entry.kept, message, self.numbers())?;
+        let Some(reply) = reply else {
+            return Ok(None);
+        };
+        let outputs = replying(alloc, &entry.key, reply.as_slice())?;
+        Ok(Some((outputs, reply)))
+    }
+
+    /// The waiting request with this number on this link, and what the answer gives it.
+    fn matched(
+        &self,
+        alloc: Global,
+        message: &Message<'_>,
+    ) -> Result<Option<(Outputs, Octets)>, NoMemory>
+        requires { IsSteady self.now }
+        ensures { IfOk result (λ o. Matches self.now (message_view message.now) o) }
+    {
+        match self.table.find(self.link, message.header.hop, self.moment) {
+            None => Ok(None),
+            Some(entry) => self.answered(alloc, entry, message),
+        }
+    }
+
+    /// A message came.
+    fn message(&mut self, alloc: Global, octets: &[u8]) -> Result<Outputs, NoMemory>
+        requires { IsSteady self.old }
+        ensures outputs { IfOk result (λ o. o ≡ (machine.messaged self.old (read_message octets.now)).outputs) }
+        ensures ledger { OnOk result (self.new ≡ (machine.messaged self.old (read_message octets.now)).ledger) }
+        ensures err { OnErr result (self.new ≡ self.old) }
+    {
+        let Ok(message) = diameter_message::parse(octets) else {
+            return dropped(alloc, Reason::NotYet);
+        };
+        if !matches!(self.phase, Phase::Serving) || !is_answer(&message.header) {
+            return dropped(alloc, Reason::NotYet);
+        }
+        match self.matched(alloc, &message)? {
+            None => dropped(alloc, Reason::NotYet),
+            Some((outputs, reply)) => {
+                let hop = message.header.hop;
+                self.table.settle(self.link, hop, self.moment, Some(reply));
+                Ok(outputs)
+            }
+        }
+    }
+
+    /// A link is ready.
+    fn ready(&mut self, alloc: Global) -> Result<Outputs, NoMemory>
+        ensures outputs { IfOk result (λ o. o
+            ≡ (machine.readied self.old (history.begins Input.Ready self.old.phase self.old.link)).outputs) }
+        ensures ledger { OnOk result (self.new
+            ≡ (machine.readied self.old (history.begins Input.Ready self.old.phase self.old.link)).ledger) }
+        ensures err { OnErr result (self.new ≡ self.old) }
+    {
+        if !matches!(self.phase, Phase::Closed) || self.link == u64::MAX {
+            return dropped(alloc, Reason::NotYet);
+        }
+        self.phase = Phase::Serving;
+        self.link += 1;
+        self.used = 0;
+        self.outbox = 0;
+        Ok(Outputs::new(alloc))
+    }
+
+    /// An input at the moment that stands.
+    fn act(&mut self, alloc: Global, input: &Input) -> Result<Outputs, NoMemory>
+        requires { IsSteady self.old }
+        ensures outputs { IfOk result (λ o. o ≡ (machine.act self.old input.now).outputs) }
+        ensures ledger { OnOk result (self.new ≡ (machine.act self.old input.now).ledger) }
+        ensures err { OnErr result (self.new ≡ self.old) }
+    {
+        match input {
+            Input::Datagram {
+                via,
+                address,
+                port,
+                octets,
+            } => self.datagram(alloc, *via, *address, *port, octets.as_slice()),
+            Input::Ready => self.ready(alloc),
+            Input::Message { octets } => self.message(alloc, octets.as_slice()),
+            Input::Up
+            | Input::Broken { .. }
+            | Input::Down
+            | Input::Tick
+            | Input::Drain
+            | Input::Leave => dropped(alloc, Reason::NotYet),
+        }
+    }
+
+    /// One step: the effective moment is the greatest so far. After an `Err` everything is as it was.
+    pub(crate) fn step(
+        &mut self,
+        alloc: Global,
+        moment: u64,
+        input: &Input,
+    ) -> Result<Outputs, NoMemory>
+        requires { IsSteady self.old }
+        ensures outputs { IfOk result (λ o. o ≡ (machine.next self.old moment input.now).outputs) }
+        ensures ledger { OnOk result (self.new ≡ (machine.next self.old moment input.now).ledger) }
+        ensures err { OnErr result (self.new ≡ self.old) }
+    {
+        let before = self.moment;
+        self.moment = before.max(moment);
+        match self.act(alloc, input) {
+            Ok(outputs) => Ok(outputs),
+            Err(refused) => {
+                self.moment = before;
+                Err(refused)
+            }
+        }
+    }
+}
