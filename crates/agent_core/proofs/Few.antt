@@ -28,7 +28,7 @@ answered_few : (config : Config) (ps : List Place) (m : ℕ) (input : Input) (me
 answered_few config ps m input message None = omega arith
 answered_few config ps m input message (Some t) =
     elim (is_built_answer t.kept message) as (λ b. IsFew (cond b (record { moment = m; input = input; taken = None; matched = Some t; outputs = history.outcome_outputs t.key (outcome t.settings t.kept message) }) (not_yet m input))) [
-      true ↦ omega arith
+      | true ↦ omega arith
       | false ↦ omega arith
     ]
 
@@ -36,7 +36,7 @@ messaged_few : (config : Config) (ps : List Place) (m : ℕ) (input : Input) (r 
 messaged_few config ps m input (Err fault) = omega arith
 messaged_few config ps m input (Ok message) =
     elim (is_serving (link ps).phase && is_answer message.header) as (λ b. IsFew (cond b (history.answered config ps m input message (find (history.is_numbered (link ps).number message.header.hop) (history.waiting config ps m))) (not_yet m input))) [
-      true ↦ answered_few config ps m input message _
+      | true ↦ answered_few config ps m input message _
       | false ↦ omega arith
     ]
 

@@ -9,7 +9,7 @@ mod verdict;
 
 pub use core::Core;
 pub use events::{Input, Output, Outputs};
-pub use laws::outputs_are_few;
+pub use laws::{outputs_are_few, past_goes_on};
 
 #[cfg(test)]
 mod tests {
