@@ -1,13 +1,13 @@
 //! One step of the agent: what goes out for what comes in, by the whole history of inputs.
 #![tactic(auto)]
 
-mod core;
+mod core_step;
 mod events;
 mod laws;
 mod ledger;
 mod verdict;
 
-pub use core::Core;
+pub use core_step::Core;
 pub use events::{Input, Output, Outputs};
 pub use laws::{outputs_are_few, past_goes_on};
 

@@ -5,7 +5,7 @@ use Rattle.agent_core.specs.History.{Event}
 use Rattle.agent_core.specs.Standing.{StandsFor}
 use Rattle.agent_core.specs.Machine.{next}
 use Rattle.agent_core.proofs.Promises.{core-steady, core-next, core-after, answers-of, stands-of}
-use Rattle.agent_core.proofs.core.Core.step.Goals as goal
+use Rattle.agent_core.proofs.core_step.Core.step.Goals as goal
 
 pub step-requires : goal.step-requires
 step-requires c = core-steady c.found_stands_at_place.ensures c.fresh_sessions_are_short.ensures _ c.self.invariant
