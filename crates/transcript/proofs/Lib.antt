@@ -1,0 +1,7 @@
+pub mod Examples
+pub mod PieceLemmas
+pub mod PrintLemmas
+pub mod ReadingLaws
+pub mod RunLemmas
+mod StreamLemmas
+pub mod WordLemmas

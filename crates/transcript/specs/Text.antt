@@ -1,0 +1,151 @@
+-- What a transcript's run prints (profile).
+use Rattle.std.specs.Prelude.{ℕ, ◌+◌, Bool, true, false, nat_eq, List, [], ◌∷◌, ◌++◌, length, map, codes, decimal, count_by, sum_by, Option, Some, None, option_map, if◌then◌else◌}
+use Rattle.std.specs.List.{join_with_byte, flat_map}
+use Rattle.std.specs.Option.{option_map_or}
+use Rattle.wire_core.specs.Numbers.{u32}
+use Rattle.hex.specs.Hex.{encode_lower}
+use Rattle.radius_packet.specs.declared.reasons.Via.{Via}
+use Rattle.radius_packet.specs.declared.reasons.Via.TheVariants.{Auth, Acct}
+use Rattle.radius_packet.specs.declared.reasons.Reason.{Reason}
+use Rattle.radius_packet.specs.declared.reasons.Reason.TheVariants.{UnknownClient, Short, BadLength, BadCode, BadAttribute, BadAuthenticator, NoSeal, BadSeal, NasAddress, BothPasswords, BadPassword, NoStatus, OnOff, KeyAttribute, BadValue, ProxyStateTooLong, Waiting, Silent, LinkDown, Spent, Full, Backlog, BadMessage, WrongPhase, Unmatched, NotYet}
+use Rattle.radius_packet.specs.Reasons.{reason_number}
+use Rattle.diameter_message.specs.declared.fault.FrameFault.{FrameFault}
+use Rattle.diameter_message.specs.declared.fault.FrameFault.TheVariants as frame
+use Rattle.peer_machine.specs.declared.LinkCause.{LinkCause}
+use Rattle.peer_machine.specs.declared.LinkCause.TheVariants as link
+use Rattle.agent_config.specs.declared.config.Config.{Config}
+use Rattle.agent_config.specs.Config.{with_client}
+use Rattle.agent_core.specs.declared.events.Output.{Output}
+use Rattle.agent_core.specs.declared.events.Output.TheVariants.{Reply, Send, Dropped, Closed}
+use Rattle.agent_core.specs.History.{Event, Place, place}
+use Rattle.transcript.specs.Words.{◌>>=◌, lines_of}
+use Rattle.transcript.specs.Lines.{agent_line, client_line, event_line, read_transcript}
+
+-- ---- one line
+
+-- pairs of hex digits in lower case, or '-' for no octets
+abbrev pub hex_text : List ℕ → List ℕ
+hex_text octets = if nat_eq (length octets) 0 then codes "-" else encode_lower octets
+
+-- the octets of an IPv4 address, separated by '.'
+abbrev pub address_text : ℕ → List ℕ
+address_text address = join_with_byte 46 (map decimal (u32 address))
+
+abbrev pub via_name : Via → List ℕ
+via_name Auth = codes "auth"
+via_name Acct = codes "acct"
+
+abbrev pub reason_name : Reason → List ℕ
+reason_name UnknownClient = codes "UnknownClient"
+reason_name Short = codes "Short"
+reason_name BadLength = codes "BadLength"
+reason_name BadCode = codes "BadCode"
+reason_name BadAttribute = codes "BadAttribute"
+reason_name BadAuthenticator = codes "BadAuthenticator"
+reason_name NoSeal = codes "NoSeal"
+reason_name BadSeal = codes "BadSeal"
+reason_name NasAddress = codes "NasAddress"
+reason_name BothPasswords = codes "BothPasswords"
+reason_name BadPassword = codes "BadPassword"
+reason_name NoStatus = codes "NoStatus"
+reason_name OnOff = codes "OnOff"
+reason_name KeyAttribute = codes "KeyAttribute"
+reason_name (BadValue code) = codes "BadValue"
+reason_name ProxyStateTooLong = codes "ProxyStateTooLong"
+reason_name Waiting = codes "Waiting"
+reason_name Silent = codes "Silent"
+reason_name LinkDown = codes "LinkDown"
+reason_name Spent = codes "Spent"
+reason_name Full = codes "Full"
+reason_name Backlog = codes "Backlog"
+reason_name BadMessage = codes "BadMessage"
+reason_name WrongPhase = codes "WrongPhase"
+reason_name Unmatched = codes "Unmatched"
+reason_name NotYet = codes "NotYet"
+
+-- what stands after a reason's name: the type of the attribute with a bad value
+abbrev pub reason_words : Reason → List (List ℕ)
+reason_words (BadValue code) = decimal code ∷ []
+reason_words reason = []
+
+abbrev pub fault_name : FrameFault → List ℕ
+fault_name frame.BadVersion = codes "BadVersion"
+fault_name frame.BadLength = codes "BadLength"
+fault_name frame.TooLong = codes "TooLong"
+
+-- a cause's name, and a number or a fault's name where it has one
+abbrev pub cause_words : LinkCause → List (List ℕ)
+cause_words (link.Refused result) = codes "Refused" ∷ decimal result ∷ []
+cause_words (link.PeerLeft cause) = codes "PeerLeft" ∷ decimal cause ∷ []
+cause_words (link.Broken fault) = codes "Broken" ∷ fault_name fault ∷ []
+cause_words link.Ended = codes "Ended" ∷ []
+cause_words link.Watchdog = codes "Watchdog" ∷ []
+cause_words link.Stalled = codes "Stalled" ∷ []
+cause_words link.Left = codes "Left" ∷ []
+
+abbrev pub output_words : Output → List (List ℕ)
+output_words (Reply via address port octets) =
+    codes "reply" ∷ via_name via ∷ address_text address ∷ decimal port ∷ hex_text octets ∷ []
+output_words (Send octets) = codes "send" ∷ hex_text octets ∷ []
+output_words (Dropped reason) = codes "drop" ∷ decimal (reason_number reason) ∷ reason_name reason ∷ reason_words reason
+output_words (Closed cause) = codes "close" ∷ cause_words cause
+
+-- words separated by one space, and the octet 0a
+abbrev pub line_text : List (List ℕ) → List ℕ
+line_text words = join_with_byte 32 words ++ 10 ∷ []
+
+-- the line of an output of the input on this line
+abbrev pub output_line : ℕ → Output → List ℕ
+output_line line output = line_text (decimal line ∷ output_words output)
+
+-- the last line: how many lines of each kind there were
+abbrev pub end_line : ℕ → ℕ → ℕ → List ℕ
+end_line replies sends drops = line_text (codes "end" ∷ decimal replies ∷ decimal sends ∷ decimal drops ∷ [])
+
+-- ---- a whole run; the places are the newest first
+
+abbrev pub is_reply : Output → Bool
+is_reply (Reply via address port octets) = true
+is_reply output = false
+
+abbrev pub is_send : Output → Bool
+is_send (Send octets) = true
+is_send output = false
+
+abbrev pub is_drop : Output → Bool
+is_drop (Dropped reason) = true
+is_drop output = false
+
+-- how many outputs of a kind went out
+abbrev pub outputs_of : (Output → Bool) → List Place → ℕ
+outputs_of kind ps = sum_by (λ p. count_by kind p.outputs) ps
+
+-- the end line after these places
+abbrev pub end_text : List Place → List ℕ
+end_text ps = end_line (outputs_of is_reply ps) (outputs_of is_send ps) (outputs_of is_drop ps)
+
+-- the line of the event after these places: the agent line is the first, and each client has a line
+abbrev pub event_number : Config → List Place → ℕ
+event_number config ps = length config.clients + 2 + length ps
+
+-- the lines of what goes out at a place, which comes after these
+abbrev pub place_text : Config → List Place → Place → List ℕ
+place_text config ps p = flat_map (output_line (event_number config ps)) p.outputs
+
+-- the text of further events
+abbrev pub text_after : Config → List Place → List Event → List ℕ
+text_after config ps [] = end_text ps
+text_after config ps (e ∷ es) =
+    place_text config ps (place config ps e) ++ text_after config (place config ps e ∷ ps) es
+
+abbrev pub transcript_text : Config → List Event → List ℕ
+transcript_text config events = text_after config [] events
+
+-- A text without lines has no settings, and prints the end line alone.
+abbrev pub text_of_lines : List (List ℕ) → Option (List ℕ)
+text_of_lines [] = Some (end_text [])
+text_of_lines (line ∷ lines) = option_map (λ x. transcript_text x.0 x.1) (read_transcript (line ∷ lines))
+
+-- what a transcript prints; None where the text isn't one
+abbrev pub text_of : List ℕ → Option (List ℕ)
+text_of text = text_of_lines (lines_of text)

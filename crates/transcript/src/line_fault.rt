@@ -1,0 +1,26 @@
+//! Why a line can't be read.
+
+use wire_core::NoMemory;
+
+/// Why a line can't be read.
+#[derive(Clone, Copy, Debug, PartialEq, Eq)]
+pub enum LineFault {
+    /// The source failed.
+    Read,
+    /// The line with this number, counted from 1, may not stand where it stands.
+    Bad { line: u64, reason: u32 },
+    /// The source has more than 2^40 octets.
+    Long,
+    NoMemory,
+}
+
+impl From<NoMemory> for LineFault {
+    ghost use Rattle.std.specs.Prelude.{◌≡◌};
+    ghost use Rattle.transcript.specs.declared.line_fault.LineFault.TheVariants as faults;
+
+    ghost from_gives = { λ _ e. e ≡ faults.NoMemory };
+
+    fn from(_e: NoMemory) -> LineFault {
+        LineFault::NoMemory
+    }
+}

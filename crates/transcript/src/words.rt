@@ -1,0 +1,143 @@
+//! What a word stands for.
+
+ghost use Rattle.std.specs.Prelude.{◌≡◌, ◌≤◌, ◌<◌, length, IsTrue, IfOk};
+ghost use Rattle.std.specs.Char.{is_ascii_digit};
+ghost use Rattle.std.specs.List.{list_all};
+ghost use Rattle.transcript.specs.Words as words;
+ghost use Rattle.transcript.specs.Reads.{Reads};
+
+use crate::pieces::Pieces;
+use crate::word_fault::WordFault;
+use agent_config::AddressList;
+use hex::FromHexError;
+use std::alloc::Global;
+use std::str;
+use wire_core::{Octets, get_u32};
+
+fn all_digits(word: &[u8]) -> bool
+    ensures { result ≡ list_all is_ascii_digit word.now }
+{
+    word.iter().all(|c| c.is_ascii_digit())
+}
+
+fn is_numeral(word: &[u8]) -> bool
+    ensures { result ≡ words.is_numeral word.now }
+{
+    1 <= word.len() && all_digits(word) && (word.len() == 1 || word[0] != b'0')
+}
+
+/// The number that a numeral stands for, where it is below 2^64.
+fn value_of(numeral: &[u8]) -> Option<u64>
+    requires { IsTrue (words.is_numeral numeral.now) }
+    ensures { result ≡ words.number_word 18446744073709551615 numeral.now }
+{
+    str::from_utf8(numeral).ok()?.parse().ok()
+}
+
+/// A decimal number up to a limit.
+pub(crate) fn read_number(word: &[u8], limit: u64) -> Result<u64, WordFault>
+    ensures exact { Reads result (words.number_word limit word.now) }
+    ensures small { IfOk result (λ n. n ≤ limit) }
+{
+    if !is_numeral(word) {
+        return Err(WordFault::Bad);
+    }
+    let number = value_of(word).ok_or(WordFault::Bad)?;
+    if number <= limit {
+        Ok(number)
+    } else {
+        Err(WordFault::Bad)
+    }
+}
+
+/// A decimal number below 2^8.
+fn read_u8(word: &[u8]) -> Result<u8, WordFault>
+    ensures { Reads result (words.number_word 255 word.now) }
+{
+    Ok(read_number(word, u64::from(u8::MAX))? as u8)
+}
+
+/// A decimal number below 2^16.
+pub(crate) fn read_u16(word: &[u8]) -> Result<u16, WordFault>
+    ensures { Reads result (words.number_word 65535 word.now) }
+{
+    Ok(read_number(word, u64::from(u16::MAX))? as u16)
+}
+
+/// A decimal number below 2^32.
+pub(crate) fn read_u32(word: &[u8]) -> Result<u32, WordFault>
+    ensures { Reads result (words.number_word 4294967295 word.now) }
+{
+    Ok(read_number(word, u64::from(u32::MAX))? as u32)
+}
+
+/// The four numbers of an address, as octets.
+fn read_quad(word: &[u8]) -> Result<[u8; 4], WordFault>
+    ensures { Reads result (words.quad_of (words.split 46 word.now)) }
+{
+    let mut pieces = Pieces::new(word, b'.');
+    let a = pieces.piece()?;
+    let b = pieces.piece()?;
+    let c = pieces.piece()?;
+    let d = pieces.piece()?;
+    pieces.end()?;
+    Ok([read_u8(a)?, read_u8(b)?, read_u8(c)?, read_u8(d)?])
+}
+
+/// An IPv4 address.
+pub(crate) fn read_address(word: &[u8]) -> Result<u32, WordFault>
+    ensures { Reads result (words.address_word word.now) }
+{
+    Ok(get_u32(&read_quad(word)?, 0))
+}
+
+/// Octets in hex, or `-` for none.
+pub(crate) fn read_hex(alloc: Global, word: &[u8]) -> Result<Octets, WordFault>
+    ensures { Reads result (words.hex_word word.now) }
+{
+    if word == b"-".as_slice() {
+        return Ok(Octets::from_vec(Vec::new(alloc)));
+    }
+    if word.is_empty() {
+        return Err(WordFault::Bad);
+    }
+    match hex::decode(alloc, word) {
+        Ok(octets) => Ok(Octets::from_vec(octets)),
+        Err(FromHexError::OutOfMemory) => Err(WordFault::NoMemory),
+        Err(_) => Err(WordFault::Bad),
+    }
+}
+
+/// One of two words: `on` stands for true, `off` for false.
+pub(crate) fn read_choice(word: &[u8], on: &[u8], off: &[u8]) -> Result<bool, WordFault>
+    ensures { Reads result (words.choice_word on.now off.now word.now) }
+{
+    if word == on {
+        Ok(true)
+    } else if word == off {
+        Ok(false)
+    } else {
+        Err(WordFault::Bad)
+    }
+}
+
+/// Addresses separated by `,`.
+fn read_each(alloc: Global, word: &[u8]) -> Result<AddressList, WordFault>
+    ensures { Reads result (words.addresses_of (words.split 44 word.now)) }
+{
+    let mut addresses = Vec::new(alloc);
+    for piece in Pieces::new(word, b',') {
+        addresses.push(read_address(piece)?)?;
+    }
+    Ok(AddressList::from_vec(addresses))
+}
+
+/// Addresses separated by `,`, or `-` for none.
+pub(crate) fn read_addresses(alloc: Global, word: &[u8]) -> Result<AddressList, WordFault>
+    ensures { Reads result (words.addresses_word word.now) }
+{
+    if word == b"-".as_slice() {
+        return Ok(AddressList::from_vec(Vec::new(alloc)));
+    }
+    read_each(alloc, word)
+}
