@@ -1,0 +1,4 @@
+pub mod Status
+pub mod Session
+pub mod Promise
+pub mod Command

@@ -1,0 +1,41 @@
+//! The command that the words of the command line name.
+
+ghost use Rattle.std.specs.Prelude.{◌≡◌, ◌↔◌, List, ℕ, Some, false};
+ghost use Rattle.agent_tool.specs.Command.{is_replay as is_replay_words};
+ghost use Rattle.agent_tool.specs.Promise.{WritesText};
+
+use crate::replay::replay;
+use crate::status::Status;
+use std::alloc::Global;
+use std::hash::RandomState;
+use wire_core::{Sink, Source};
+
+fn is_replay(words: &[String]) -> bool
+    ensures { result ≡ is_replay_words words.now }
+{
+    match words {
+        [word] => word.as_str() == "replay",
+        _ => false,
+    }
+}
+
+/// Runs the command that these words name, over this input and this output: `replay` alone. `random` is for tables
+/// that hash their keys.
+pub fn agent<S: Source, K: Sink>(
+    alloc: Global,
+    random: RandomState,
+    words: &[String],
+    input: &mut S,
+    output: &mut K,
+) -> Status
+    ensures usage { result ≡ Status.Usage ↔ is_replay_words words.now ≡ false }
+    ensures unread { result ≡ Status.Usage → (input.new ≡ input.old) × (output.new ≡ output.old) }
+    ensures done { result ≡ Status.Done → (X : List ℕ) → S.left input.old ≡ Some X
+        → WritesText X (K.written output.old) (K.written output.new) }
+{
+    if is_replay(words) {
+        replay(alloc, random, input, output)
+    } else {
+        Status::Usage
+    }
+}

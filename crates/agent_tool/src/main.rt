@@ -1,0 +1,81 @@
+//! Runs the commands of the agent: `agent replay` reads a transcript from stdin and writes what the agent sends to
+//! stdout. Where the status isn't 0, its name stands on stderr.
+#![tactic(auto)]
+
+mod agent;
+mod replay;
+mod session;
+mod status;
+#[cfg(test)]
+mod tests;
+
+pub use agent::agent;
+pub use replay::replay;
+pub use status::Status;
+use std::hash::RandomState;
+use std::process::ExitCode;
+use std::{env, io};
+use wire_core::{ReaderSource, WriterSink};
+
+const HELP: &str = "\
+usage: agent replay < TRANSCRIPT
+       agent --help
+       agent --version
+
+Reads a transcript: a line of settings, lines of clients, and lines of events, each with its moment in
+milliseconds. Prints what the agent sends for each event, after the number of its line, and at last how many
+replies, messages and drops there were.
+
+exit statuses: 0 done, 1 other words, 3 a line that may not stand where it stands, 4 the input failed,
+5 the output failed, 9 no memory, 12 an input of more than 2^40 octets, 14 no random octets
+";
+
+/// The words after the program's name.
+fn words_after_name(rt: &HostRuntime) -> io::Result<Vec<String>> {
+    let mut words = Vec::new(rt.alloc());
+    for word in env::args(rt)?.skip(1) {
+        words.push(word)?;
+    }
+    Ok(words)
+}
+
+/// Says on stderr how a run ended that wasn't done, and gives the status to exit with.
+fn end(rt: &HostRuntime, status: Status) -> ExitCode {
+    if status != Status::Done {
+        let _ = eprintln!(rt; "agent: {status}");
+    }
+    ExitCode::from(status.number())
+}
+
+fn main(rt: HostRuntime) -> ExitCode {
+    let Ok(words) = words_after_name(&rt) else {
+        return end(&rt, Status::OutOfMemory);
+    };
+    if let [word] = words.as_slice() {
+        let text = match word.as_str() {
+            "--help" => HELP,
+            "--version" => "agent 0.1.0\n",
+            _ => "",
+        };
+        if !text.is_empty() {
+            return match print!(&rt; "{text}") {
+                Ok(()) => ExitCode::SUCCESS,
+                Err(_) => end(&rt, Status::WriteFault),
+            };
+        }
+    }
+    let Ok(random) = RandomState::new(&rt) else {
+        let _ = eprintln!(&rt; "agent: random");
+        return ExitCode::from(14);
+    };
+    let mut input = ReaderSource::new(rt.reader());
+    let mut output = WriterSink::new(io::writer(&rt));
+    let status = agent(
+        rt.alloc(),
+        random,
+        words.as_slice(),
+        &mut input,
+        &mut output,
+    );
+    end(&rt, status)
+}

@@ -1,0 +1,72 @@
+//! The command `replay`.
+
+ghost use Rattle.std.specs.Prelude.{◌≡◌, List, ℕ, Some};
+ghost use Rattle.transcript.specs.Reading.{start};
+ghost use Rattle.agent_tool.specs.Command.{IsOfRun};
+ghost use Rattle.agent_tool.specs.Promise.{RepliesWhole, WritesText};
+ghost use Rattle.agent_tool.specs.Status.{fault_status};
+
+use crate::session::{Session, finish, follow};
+use crate::status::Status;
+use std::alloc::Global;
+use std::hash::RandomState;
+use transcript::{LineFault, Lines};
+use wire_core::{Sink, Source};
+
+fn status_of(fault: LineFault) -> Status
+    ensures status { result ≡ fault_status fault }
+    ensures of_run { IsOfRun result }
+{
+    match fault {
+        LineFault::Read => Status::ReadFault,
+        LineFault::Bad { line, reason } => Status::BadTranscript { line, reason },
+        LineFault::Long => Status::TooLong,
+        LineFault::NoMemory => Status::OutOfMemory,
+    }
+}
+
+/// Follows the lines to their end, unless something ends the run before.
+fn follow_lines<S: Source, K: Sink>(
+    alloc: Global,
+    random: RandomState,
+    lines: &mut Lines<'_, S>,
+    output: &mut K,
+) -> Status
+    requires fresh { lines.old.reader ≡ start }
+    ensures same_source { lines.new.source.ghost_name ≡ lines.old.source.ghost_name }
+    ensures of_run { IsOfRun result }
+    ensures done { result ≡ Status.Done → (X : List ℕ) → S.left lines.old.source.now ≡ Some X
+        → RepliesWhole X (S.left lines.new.source.now) (K.written output.old) (K.written output.new) }
+{
+    transcript::run_prints_text();
+    agent_config::client_keeps_limits();
+    let mut session = Session::Start { random };
+    loop {
+        match lines.next_line() {
+            Ok(Some(line)) => match follow(alloc, session, line, output) {
+                Ok(new) => session = new,
+                Err(status) => return status,
+            },
+            Ok(None) => return finish(alloc, &session, output),
+            Err(fault) => return status_of(fault),
+        }
+    }
+}
+
+/// Reads a transcript from the input, and prints what the agent sends for each of its events and the end line.
+/// Each line's outputs are written before the next line is read. `random` is for tables that hash their keys.
+pub fn replay<S: Source, K: Sink>(
+    alloc: Global,
+    random: RandomState,
+    input: &mut S,
+    output: &mut K,
+) -> Status
+    ensures of_run { IsOfRun result }
+    ensures done { result ≡ Status.Done → (X : List ℕ) → S.left input.old ≡ Some X
+        → WritesText X (K.written output.old) (K.written output.new) }
+{
+    let Ok(mut lines) = Lines::new(alloc, input) else {
+        return Status::OutOfMemory;
+    };
+    follow_lines(alloc, random, &mut lines, output)
+}
