@@ -1,3 +1,4 @@
-pub mod Sessions
-pub mod Saying
-pub mod Following
+mod LineLaws
+mod ReplayLaws
+mod RunLaws
+mod Sessions

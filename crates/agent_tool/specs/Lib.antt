@@ -1,4 +1,5 @@
-pub mod Status
-pub mod Session
-pub mod Promise
 pub mod Command
+pub mod Promise
+pub mod Replay
+pub mod Session
+pub mod Status

@@ -1,7 +1,8 @@
 -- What a replay knows of the lines so far, and what a line does.
-use Rattle.std.specs.Prelude.{◌≡◌, ℕ, ◌+◌, ◌*◌, ◌<◌, ◌≤◌, List, [], ◌∷◌, length, map, count_by, Option, Some, None, ⊤}
+use Rattle.std.specs.Prelude.{◌≡◌, ℕ, ◌+◌, ◌*◌, ◌<◌, ◌≤◌, List, [], ◌∷◌, ◌++◌, length, map, count_by, Option, Some, None, ⊤}
 use Rattle.std.specs.List.{flat_map}
 use Rattle.wire_core.specs.Sink.{Appends}
+use Rattle.agent_config.specs.declared.client.Client.{Client}
 use Rattle.agent_config.specs.declared.config.Config.{Config}
 use Rattle.agent_config.specs.Config.{InLimits, ClientInLimits, find_address, with_client}
 use Rattle.agent_core.specs.declared.events.Output.{Output}
@@ -18,7 +19,7 @@ use Rattle.transcript.specs.Words.{lines_of}
 use Rattle.transcript.specs.Run.{Stage, line_number, print_first, run_from, run_of}
 use Rattle.transcript.specs.Run as run
 use Rattle.agent_tool.specs.declared.status.Status.{Status}
-use Rattle.agent_tool.specs.declared.status.Status.TheVariants.{WriteFault, OutOfMemory}
+use Rattle.agent_tool.specs.declared.status.Status.TheVariants.{Done, WriteFault, OutOfMemory}
 use Rattle.agent_tool.specs.declared.session.Counts.{Counts}
 use Rattle.agent_tool.specs.declared.session.Session.{Session}
 use Rattle.agent_tool.specs.declared.session.Session.TheVariants.{Start, Clients, Running}
@@ -113,30 +114,7 @@ IsFailure WriteFault = ⊤
 IsFailure OutOfMemory = ⊤
 IsFailure status = ⊥
 
--- the session has what the reader says of the lines so far
-abbrev pub Accords : Session → Reader → Type 0
-Accords (Start random) reader = (reader.section ≡ section.Start) × (reader.addresses ≡ [])
-Accords (Clients random config) reader =
-    (reader.section ≡ section.Clients) × (reader.addresses ≡ map (λ c. c.address) config.clients) × InLimits config
-Accords (Running core counts) reader =
-    (reader.section ≡ section.Events) × AtMost counts (reader.number * 2) × Stands core
-
--- the session is at this stage of a run
-abbrev pub IsAt : Session → Stage → Type 0
-IsAt (Start random) run.Start = ⊤
-IsAt (Clients random config) (run.Clients settings) = settings ≡ config
-IsAt (Running core counts) (run.Events config ps) = RunsAt core counts config ps
-IsAt session stage = ⊥
-
--- a run of this text is at this stage, and what it printed so far was written
-pub record Ran (stage : Stage) (reader : Reader) (left before now : Option (List ℕ)) (text : List ℕ) : Type 0 where
-  pub numbered : line_number stage ≡ reader.number + 1
-  pub printed : List ℕ
-  pub written : Appends before now printed
-  pub to_come : List ℕ
-  pub is_to_come : rest reader left ≡ Some to_come
-  pub runs : run_of text ≡ print_first printed (run_from stage (lines_of to_come))
-
--- the session is where a run of the text is
-abbrev pub SoFar : Session → Reader → Option (List ℕ) → Option (List ℕ) → Option (List ℕ) → List ℕ → Type 0
-SoFar session reader left before now text = (stage : Stage) × (IsAt session stage × Ran stage reader left before now text)
+-- the end line was printed, or wasn't
+abbrev pub IsDone : Status → Type 0
+IsDone Done = ⊤
+IsDone status = IsFailure status

@@ -1,8 +1,9 @@
 //! The command that the words of the command line name.
 
-ghost use Rattle.std.specs.Prelude.{◌≡◌, ◌↔◌, List, ℕ, Some, false};
+ghost use Rattle.std.specs.Prelude.{◌≡◌, ◌<◌, ◌↔◌, List, ℕ, Some, false, length};
+ghost use Rattle.wire_core.specs.Counts.{Rose};
 ghost use Rattle.agent_tool.specs.Command.{is_replay as is_replay_words};
-ghost use Rattle.agent_tool.specs.Promise.{WritesText};
+ghost use Rattle.agent_tool.specs.Promise.{RepliesWhole, StopsAt};
 
 use crate::replay::replay;
 use crate::status::Status;
@@ -31,7 +32,14 @@ pub fn agent<S: Source, K: Sink>(
     ensures usage { result ≡ Status.Usage ↔ is_replay_words words.now ≡ false }
     ensures unread { result ≡ Status.Usage → (input.new ≡ input.old) × (output.new ≡ output.old) }
     ensures done { result ≡ Status.Done → (X : List ℕ) → S.left input.old ≡ Some X
-        → WritesText X (K.written output.old) (K.written output.new) }
+        → RepliesWhole X (S.left input.new) (K.written output.old) (K.written output.new) }
+    ensures ended { result ≡ Status.Done → Rose (S.ends input.old) (S.ends input.new) }
+    ensures bad { (line reason : ℕ) → result ≡ Status.BadTranscript line reason
+        → (X : List ℕ) → S.left input.old ≡ Some X → StopsAt X line (K.written output.old) (K.written output.new) }
+    ensures reason { (line reason : ℕ) → result ≡ Status.BadTranscript line reason → reason ≡ 99 }
+    ensures read { result ≡ Status.ReadFault → Rose (S.faults input.old) (S.faults input.new) }
+    ensures write { result ≡ Status.WriteFault → Rose (K.faults output.old) (K.faults output.new) }
+    ensures long { result ≡ Status.TooLong → (X : List ℕ) → S.left input.old ≡ Some X → 1099511627776 < length X }
 {
     if is_replay(words) {
         replay(alloc, random, input, output)

@@ -6,8 +6,6 @@ mod agent;
 mod replay;
 mod session;
 mod status;
-#[cfg(test)]
-mod tests;
 
 pub use agent::agent;
 pub use replay::replay;
@@ -79,3 +77,6 @@ fn main(rt: HostRuntime) -> ExitCode {
     );
     end(&rt, status)
 }
+
+#[cfg(test)]
+mod tests;

@@ -1,9 +1,10 @@
 //! The command `replay`.
 
-ghost use Rattle.std.specs.Prelude.{◌≡◌, List, ℕ, Some};
+ghost use Rattle.std.specs.Prelude.{◌≡◌, ◌<◌, ◌≤◌, List, ℕ, Some, length};
+ghost use Rattle.wire_core.specs.Counts.{Rose};
 ghost use Rattle.transcript.specs.Reading.{start};
 ghost use Rattle.agent_tool.specs.Command.{IsOfRun};
-ghost use Rattle.agent_tool.specs.Promise.{RepliesWhole, WritesText};
+ghost use Rattle.agent_tool.specs.Promise.{RepliesWhole, StopsAt};
 ghost use Rattle.agent_tool.specs.Status.{fault_status};
 
 use crate::session::{Session, finish, follow};
@@ -25,18 +26,26 @@ fn status_of(fault: LineFault) -> Status
     }
 }
 
-/// Follows the lines to their end, unless something ends the run before.
-fn follow_lines<S: Source, K: Sink>(
+/// Follows the lines to their end, and prints the end line.
+fn follow_all<S: Source, K: Sink>(
     alloc: Global,
     random: RandomState,
     lines: &mut Lines<'_, S>,
     output: &mut K,
 ) -> Status
-    requires fresh { lines.old.reader ≡ start }
-    ensures same_source { lines.new.source.ghost_name ≡ lines.old.source.ghost_name }
+    requires { lines.old.reader ≡ start }
     ensures of_run { IsOfRun result }
+    ensures same_source { lines.new.source.ghost_name ≡ lines.old.source.ghost_name }
     ensures done { result ≡ Status.Done → (X : List ℕ) → S.left lines.old.source.now ≡ Some X
         → RepliesWhole X (S.left lines.new.source.now) (K.written output.old) (K.written output.new) }
+    ensures ended { result ≡ Status.Done → Rose (S.ends lines.old.source.now) (S.ends lines.new.source.now) }
+    ensures bad { (line reason : ℕ) → result ≡ Status.BadTranscript line reason
+        → (X : List ℕ) → S.left lines.old.source.now ≡ Some X → StopsAt X line (K.written output.old) (K.written output.new) }
+    ensures reason { (line reason : ℕ) → result ≡ Status.BadTranscript line reason → reason ≡ 99 }
+    ensures read { result ≡ Status.ReadFault → Rose (S.faults lines.old.source.now) (S.faults lines.new.source.now) }
+    ensures write { result ≡ Status.WriteFault → Rose (K.faults output.old) (K.faults output.new) }
+    ensures long { result ≡ Status.TooLong
+        → (X : List ℕ) → S.left lines.old.source.now ≡ Some X → 1099511627776 < length X }
 {
     transcript::run_prints_text();
     agent_config::client_keeps_limits();
@@ -63,10 +72,19 @@ pub fn replay<S: Source, K: Sink>(
 ) -> Status
     ensures of_run { IsOfRun result }
     ensures done { result ≡ Status.Done → (X : List ℕ) → S.left input.old ≡ Some X
-        → WritesText X (K.written output.old) (K.written output.new) }
+        → RepliesWhole X (S.left input.new) (K.written output.old) (K.written output.new) }
+    ensures ended { result ≡ Status.Done → Rose (S.ends input.old) (S.ends input.new) }
+    ensures bad { (line reason : ℕ) → result ≡ Status.BadTranscript line reason
+        → (X : List ℕ) → S.left input.old ≡ Some X → StopsAt X line (K.written output.old) (K.written output.new) }
+    ensures reason { (line reason : ℕ) → result ≡ Status.BadTranscript line reason → reason ≡ 99 }
+    ensures read { result ≡ Status.ReadFault → Rose (S.faults input.old) (S.faults input.new) }
+    ensures write { result ≡ Status.WriteFault → Rose (K.faults output.old) (K.faults output.new) }
+    ensures long { result ≡ Status.TooLong → (X : List ℕ) → S.left input.old ≡ Some X → 1099511627776 < length X }
 {
     let Ok(mut lines) = Lines::new(alloc, input) else {
         return Status::OutOfMemory;
     };
-    follow_lines(alloc, random, &mut lines, output)
+    let status = follow_all(alloc, random, &mut lines, output);
+    lines.into_source();
+    status
 }

@@ -7,8 +7,7 @@ ghost use Rattle.wire_core.specs.Sink.{Appends};
 ghost use Rattle.transcript.specs.Text.{output_line, is_reply as reply_test, is_send as send_test, is_drop as drop_test};
 ghost use Rattle.agent_config.specs.Config.{InLimits, with_client};
 ghost use Rattle.agent_core.specs.History.{Event};
-ghost use Rattle.agent_tool.specs.Command.{IsOfRun};
-ghost use Rattle.agent_tool.specs.Session.{AtMost, CanFollow, Followed, GoesOn, IsBegun, IsFailure, RunsOn, Stands, counted, counts_so_far, end_of, no_counts};
+ghost use Rattle.agent_tool.specs.Session.{AtMost, CanFollow, Followed, GoesOn, IsBegun, IsDone, IsFailure, RunsOn, Stands, counted, counts_so_far, end_of, no_counts};
 
 use crate::status::Status;
 use agent_config::{Client, Config};
@@ -300,7 +299,7 @@ fn counts_of(session: &Session) -> Counts
 /// Prints the end line.
 pub(crate) fn finish<K: Sink>(alloc: Global, session: &Session, sink: &mut K) -> Status
     ensures done { result ≡ Status.Done → Appends (K.written sink.old) (K.written sink.new) (end_of session.now) }
-    ensures of_run { IsOfRun result }
+    ensures ends { IsDone result }
     ensures fault { result ≡ Status.WriteFault → Rose (K.faults sink.old) (K.faults sink.new) }
     ensures faults_stay { K.faults sink.old ≤ K.faults sink.new }
 {

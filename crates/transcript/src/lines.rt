@@ -52,4 +52,13 @@ impl<'a, S: Source> Lines<'a, S> {
     {
         self.reader.next_line(self.source)
     }
+
+    /// Gives the source back, as far as it was read.
+    pub fn into_source(self) -> &'a mut S
+        ensures same_source { result.ghost_name ≡ self.entry.source.ghost_name }
+        ensures as_read { result.now ≡ self.entry.source.now }
+    {
+        let Lines { source, reader: _ } = self;
+        source
+    }
 }

@@ -1,4 +1,5 @@
-use Rattle.std.proofs.Common.{[], refl, ap, arith}
+use Rattle.std.proofs.Common.{◌≡◌, ◌≤◌, [], length, refl, sym, ◌∙◌, ap, arith, rules}
+use Rattle.agent_tool.specs.Session.{AtMost, RunsAt}
 use Rattle.agent_tool.proofs.session.begin.Goals as goal
 
 pub returns-in-Ok-run_event-clause-begun : goal.returns-in-Ok-run_event-clause-begun
@@ -6,8 +7,8 @@ returns-in-Ok-run_event-clause-begun g c =
     let replies = ap (λ k. k.replies) c.none-counts.ensures in
     let sends = ap (λ k. k.sends) c.none-counts.ensures in
     let drops = ap (λ k. k.drops) c.none-counts.ensures in
-    let (at, wrote) = c.in-Ok-run_event.ensures.runs.on c.args.config []
-    (record {
+    let none : AtMost c.none-counts.result 0 = record { replies = omega (arith, replies); sends = omega (arith, sends); drops = omega (arith, drops) } in
+    let first : RunsAt c.in-Ok.core c.none-counts.result c.args.config [] = record {
       history = [];
       past_is = refl;
       config_is = c.in-Ok.ensures.config;
@@ -15,7 +16,6 @@ returns-in-Ok-run_event-clause-begun g c =
       replies = replies;
       sends = sends;
       drops = drops;
-    }) in
-    let few = c.in-Ok-run_event.ensures.runs.few 0
-    (record { replies = omega (arith, replies); sends = omega (arith, sends); drops = omega (arith, drops) }) in
-    (at, wrote, few, c.in-Ok-run_event.ensures.runs.stands)
+    } in
+    let (at, wrote) = c.in-Ok-run_event.ensures.runs.on c.args.config [] first in
+    (at, wrote, c.in-Ok-run_event.ensures.runs.few 0 none, c.in-Ok-run_event.ensures.runs.stands)
