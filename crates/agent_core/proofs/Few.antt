@@ -6,6 +6,7 @@ use Rattle.diameter_message.specs.declared.fault.MessageFault.{MessageFault}
 use Rattle.diameter_message.specs.Message.{MessageParts}
 use Rattle.agent_config.specs.declared.config.Config.{Config}
 use Rattle.access_map.specs.Answers.{is_answer, is_built_answer, outcome}
+use Rattle.pending_table.specs.declared.Key.{Key}
 use Rattle.agent_core.specs.declared.events.Input.{Input}
 use Rattle.agent_core.specs.declared.events.Input.TheVariants.{Datagram, Up, Ready, Message, Broken, Down, Tick, Drain, Leave}
 use Rattle.agent_core.specs.History as history
@@ -16,8 +17,13 @@ admitted_few : (config : Config) (ps : List Place) (m : ℕ) (input : Input) (re
 admitted_few config ps m input request (Some reason) = omega arith
 admitted_few config ps m input request None = omega arith
 
+repeated_few : (key : Key) (o : Option (Option (List ℕ))) → length (history.repeated key o) ≤ 2
+repeated_few key None = omega arith
+repeated_few key (Some None) = omega arith
+repeated_few key (Some (Some octets)) = omega arith
+
 requested_few : (config : Config) (ps : List Place) (m : ℕ) (input : Input) (request : Request) (o : Option Taking) → IsFew (history.requested config ps m input request o)
-requested_few config ps m input request (Some t) = omega arith
+requested_few config ps m input request (Some t) = repeated_few t.key _
 requested_few config ps m input request None = admitted_few config ps m input request _
 
 datagram_few : (config : Config) (ps : List Place) (m : ℕ) (input : Input) (r : Result Request Reason) → IsFew (history.datagram config ps m input r)

@@ -8,11 +8,35 @@ use Rattle.pending_table.specs.Table as table
 use Rattle.agent_core.specs.declared.events.Input.{Input}
 use Rattle.agent_core.specs.declared.ledger.Ledger.{Ledger}
 use Rattle.agent_core.specs.History.{Event, Place, Taking, now, place, places, past, live, takings, answer_to}
-use Rattle.agent_core.specs.Machine.{Next, next, act}
+use Rattle.agent_core.specs.Machine.{Next, next, act, tidied}
 use Rattle.agent_core.specs.Standing.{StandsAt, StandsFor, entry_of, EntryFits, KeptFits, start}
-use Rattle.agent_core.proofs.Lists.{AllByRecursion-filter, AllByRecursion-map, AllByRecursion-weaken}
+use Rattle.agent_core.proofs.Lists.{filter-within, AllByRecursion-filter, AllByRecursion-map, AllByRecursion-weaken}
 use Rattle.agent_core.proofs.Soundness.{IsSound, IsSound-nil, TakingFits}
 use Rattle.agent_core.proofs.Simulation.{Lasts, Before, Follows, StandsAt-later, input-follows, live-agrees}
+
+-- dropping dead entries changes nothing that a history is compared with
+tidied-follows : (ps : List Place) (m : ℕ) (S : Ledger) (p : Place) (n : Next) → Follows ps m S p n → Follows ps m S p (tidied n)
+tidied-follows ps m S p n f =
+    let stands = f.stands in
+    let lives = table.is_live n.ledger.table.retention m in
+    record {
+      sound = f.sound;
+      stands = record {
+        moment = stands.moment;
+        phase = stands.phase;
+        link = stands.link;
+        used = stands.used;
+        outbox = stands.outbox;
+        total = stands.total;
+        serial = stands.serial;
+        capacity = stands.capacity;
+        retention = stands.retention;
+        entries = rw stands.moment (filter-within lives lives (λ x h. h) n.ledger.table.entries ∙ stands.entries);
+      };
+      outputs = f.outputs;
+      config = f.config;
+      moment = f.moment;
+    }
 
 -- one step, by the place that the rule gives
 pub step-follows : FoundStandsAtPlace → (ps : List Place) (S : Ledger) (e : Event) → Lasts S.config → IsSound S.config ps → StandsAt ps (now ps) S → Follows ps (max (now ps) e.moment) S (place S.config ps e) (next S e.moment e.input)
@@ -21,9 +45,9 @@ step-follows law ps S e lasts sound stands =
     let later : now ps ≤ m = omega arith in
     let moved : Ledger = record S { moment = m } in
     let f = input-follows law ps m moved (record { stands = StandsAt-later ps S (now ps) m later stands; sound = sound; later = later; lasts = lasts }) e.input in
-    subst (λ (k : ℕ). Follows ps m S (place S.config ps e) (act (record S { moment = k }) e.input))
+    subst (λ (k : ℕ). Follows ps m S (place S.config ps e) (tidied (act (record S { moment = k }) e.input)))
     (ap (λ k. max k e.moment) (sym stands.moment))
-    (record { sound = f.sound; stands = f.stands; outputs = f.outputs; config = f.config; moment = f.moment })
+    (tidied-follows ps m S (place S.config ps e) (act moved e.input) (record { sound = f.sound; stands = f.stands; outputs = f.outputs; config = f.config; moment = f.moment }))
 
 -- the places of a history with one more event
 pub places-append : (config : Config) (ps : List Place) (es : List Event) (e : Event) → places config ps (es ++ e ∷ []) ≡ place config (places config ps es) e ∷ places config ps es

@@ -1,4 +1,5 @@
 pub mod Lists
+pub mod Keys
 pub mod Updates
 pub mod Soundness
 pub mod Simulation

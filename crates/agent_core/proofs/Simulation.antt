@@ -15,7 +15,7 @@ use Rattle.agent_config.specs.Config.{find_address, FoundStandsAtPlace}
 use Rattle.radius_packet.specs.declared.reasons.Via.{Via}
 use Rattle.radius_packet.specs.declared.reasons.Via.TheVariants.{Auth, Acct}
 use Rattle.radius_packet.specs.declared.reasons.Reason.{Reason}
-use Rattle.radius_packet.specs.declared.reasons.Reason.TheVariants.{NotYet}
+use Rattle.radius_packet.specs.declared.reasons.Reason.TheVariants.{Unmatched, NotYet}
 use Rattle.radius_packet.specs.declared.fault.PacketFault.{PacketFault}
 use Rattle.radius_packet.specs.Packet.{PacketParts, read_packet}
 use Rattle.session_carrier.specs.declared.kept.Kind2.{Kind2}
@@ -37,7 +37,8 @@ use Rattle.std.proofs.lemmas.Option.{slice_get_within}
 use Rattle.diameter_message.specs.declared.fault.MessageFault.{MessageFault}
 use Rattle.diameter_message.specs.Message.{MessageParts, read_message}
 use Rattle.access_map.specs.Answers.{outcome, is_answer, is_built_answer}
-use Rattle.agent_core.proofs.Lists.{AllByRecursion-filter, find-All, filter-within, filter-map, find-map, find-filter, find-same, filter-same}
+use Rattle.agent_core.proofs.Lists.{AllByRecursion-filter, find-All, filter-within, filter-map, find-map, find-filter, find-same, find-true, filter-same}
+use Rattle.agent_core.proofs.Keys.{same_key-equal}
 use Rattle.agent_core.proofs.Updates.{update_first-filter, update_first-map}
 use Rattle.agent_core.proofs.Soundness.{IsSound, IsSound-still, IsSound-taking, TakingFits, RequestFits, Admits, refusal-none, taking_place, not-ahead}
 
@@ -328,9 +329,27 @@ admitted-follows ps m S b input quiet request fits None e =
     })
     (refusal-none S.config (rooms S.config ps m) e)
 
-requested-follows : (ps : List Place) (m : ℕ) (S : Ledger) → Before ps m S → (input : Input) → begins_at ps input ≡ false → (request : Request) → VerdictFits S.config request → (o : Option Taking) → Follows ps m S (history.requested S.config ps m input request o) (machine.requested S request (option_map (entry_of ps) o))
-requested-follows ps m S b input quiet request fits (Some t) = not_yet-follows ps m S b input quiet
-requested-follows ps m S b input quiet request fits None =
+repeated-agrees : (key : Key) (o : Option (Option (List ℕ))) → machine.repeated key (answer_in o) ≡ history.repeated key o
+repeated-agrees key None = refl
+repeated-agrees key (Some None) = refl
+repeated-agrees key (Some (Some octets)) = refl
+
+repeated-sends-nothing : (key : Key) (o : Option (Option (List ℕ))) → count_by is_send (history.repeated key o) ≡ 0
+repeated-sends-nothing key None = refl
+repeated-sends-nothing key (Some None) = refl
+repeated-sends-nothing key (Some (Some octets)) = refl
+
+-- the request of a key that is found has this very key
+found-key : (ts : List Taking) (key : Key) (t : Taking) → find (λ u. table.same_key u.key key) ts ≡ Some t → key ≡ t.key
+found-key ts key t found = sym (same_key-equal t.key key (find-true (λ (u : Taking). table.same_key u.key key) ts t found))
+
+requested-follows : (ps : List Place) (m : ℕ) (S : Ledger) → Before ps m S → (input : Input) → begins_at ps input ≡ false → (request : Request) → VerdictFits S.config request → (o : Option Taking) → find (λ t. table.same_key t.key request.key) (live S.config ps m) ≡ o → Follows ps m S (history.requested S.config ps m input request o) (machine.requested S request (option_map (entry_of ps) o))
+requested-follows ps m S b input quiet request fits (Some t) found =
+    let answer = answer_to t.place ps in
+    let same : machine.repeated request.key (answer_in answer) ≡ history.repeated t.key answer = ap (λ k. machine.repeated k (answer_in answer)) (found-key _ request.key t found) ∙ repeated-agrees t.key answer in
+    subst (λ (outputs : List Output). Follows ps m S (still m input (history.repeated t.key answer)) (says S outputs)) (sym same)
+    (still-follows ps m S b input quiet (history.repeated t.key answer) (repeated-sends-nothing t.key answer))
+requested-follows ps m S b input quiet request fits None found =
     subst (λ (r : Rooms). Follows ps m S (history.requested S.config ps m input request None) (machine.admitted S request (history.refusal S.config r)))
     (sym (rooms-agree ps m S b.stands)) (admitted-follows ps m S b input quiet request fits _ refl)
 
@@ -343,7 +362,7 @@ key-agrees ps m S key stands =
 datagram-follows : (ps : List Place) (m : ℕ) (S : Ledger) → Before ps m S → (input : Input) → begins_at ps input ≡ false → (r : Result Request Reason) → ((request : Request) → r ≡ Ok request → VerdictFits S.config request) → Follows ps m S (history.datagram S.config ps m input r) (machine.datagram S r)
 datagram-follows ps m S b input quiet (Err reason) fits = still-follows ps m S b input quiet (Dropped reason ∷ []) refl
 datagram-follows ps m S b input quiet (Ok request) fits =
-    rw (key-agrees ps m S request.key b.stands) (requested-follows ps m S b input quiet request (fits request refl) _)
+    rw (key-agrees ps m S request.key b.stands) (requested-follows ps m S b input quiet request (fits request refl) _ refl)
 
 -- the entry of a number is the one of the taking with this number
 number-agrees : (ps : List Place) (m : ℕ) (S : Ledger) (hop : ℕ) → StandsAt ps m S → table.find_number S.table S.link hop S.moment ≡ option_map (entry_of ps) (find (history.is_numbered (link ps).number hop) (waiting S.config ps m))
@@ -358,7 +377,7 @@ found-fits ps m S hop t b found =
     (AllByRecursion-filter _ _ (live S.config ps m) (AllByRecursion-filter _ _ (takings ps) b.sound.each)) t found
 
 matched-follows : (ps : List Place) (m : ℕ) (S : Ledger) → Before ps m S → (octets : List ℕ) (message : MessageParts) (o : Option Taking) → find (history.is_numbered (link ps).number message.header.hop) (waiting S.config ps m) ≡ o → Follows ps m S (history.answered S.config ps m (Message octets) message o) (machine.answered S message (option_map (entry_of ps) o))
-matched-follows ps m S b octets message None found = not_yet-follows ps m S b (Message octets) refl
+matched-follows ps m S b octets message None found = still-follows ps m S b (Message octets) refl (Dropped Unmatched ∷ []) refl
 matched-follows ps m S b octets message (Some t) found =
     let fits = found-fits ps m S message.header.hop t b found in
     elim (is_built_answer t.kept message) as (λ c. Follows ps m S (cond c (answered_place S.config ps m (Message octets) message t) (history.not_yet m (Message octets))) (cond c (machine.with_client S message (entry_of ps t) (slice_get S.config.clients t.kept.client)) (machine.not_yet S))) [

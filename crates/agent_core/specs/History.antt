@@ -5,7 +5,7 @@ use Rattle.radius_packet.specs.Packet.{PacketParts, packet_text, read_packet}
 use Rattle.radius_packet.specs.declared.reasons.Via.{Via}
 use Rattle.radius_packet.specs.declared.reasons.Via.TheVariants.{Auth, Acct}
 use Rattle.radius_packet.specs.declared.reasons.Reason.{Reason}
-use Rattle.radius_packet.specs.declared.reasons.Reason.TheVariants.{LinkDown, Spent, Full, Backlog, NotYet}
+use Rattle.radius_packet.specs.declared.reasons.Reason.TheVariants.{UnknownClient, Waiting, Silent, LinkDown, Spent, Full, Backlog, Unmatched, NotYet}
 use Rattle.radius_packet.specs.declared.fault.PacketFault.{PacketFault}
 use Rattle.diameter_message.specs.declared.fault.MessageFault.{MessageFault}
 use Rattle.diameter_message.specs.declared.header.Header.{Header}
@@ -60,7 +60,7 @@ packet_verdict place client via address port (Ok packet) =
     else Err NotYet
 
 abbrev pub client_verdict : Via → ℕ → ℕ → List ℕ → Option (ℕ × Client) → Result Request Reason
-client_verdict via address port octets None = Err NotYet
+client_verdict via address port octets None = Err UnknownClient
 client_verdict Acct address port octets (Some client) = Err NotYet
 client_verdict Auth address port octets (Some client) =
     packet_verdict client.0 client.1 Auth address port (read_packet octets)
@@ -276,9 +276,15 @@ admitted config ps m input request None = record {
   outputs = Send (request_sent config request (used ps) (total ps) (serial ps)) ∷ [];
 }
 
+-- what a request gets that comes again: the reply that it got, or why it gets none
+abbrev pub repeated : Key → Option (Option (List ℕ)) → List Output
+repeated key None = Dropped Waiting ∷ []
+repeated key (Some None) = Dropped Silent ∷ []
+repeated key (Some (Some octets)) = Reply key.via key.address key.port octets ∷ []
+
 -- a request, by the live one of its key
 abbrev pub requested : Config → List Place → ℕ → Input → Request → Option Taking → Place
-requested config ps m input request (Some t) = not_yet m input
+requested config ps m input request (Some t) = still m input (repeated t.key (answer_to t.place ps))
 requested config ps m input request None = admitted config ps m input request (refusal config (rooms config ps m))
 
 abbrev pub datagram : Config → List Place → ℕ → Input → Result Request Reason → Place
@@ -299,7 +305,7 @@ outcome_outputs key o = reply_output key o.reply ++ follow_output o.follow
 
 -- an answer, by the waiting request that it matches
 abbrev pub answered : Config → List Place → ℕ → Input → MessageParts → Option Taking → Place
-answered config ps m input message None = not_yet m input
+answered config ps m input message None = still m input (Dropped Unmatched ∷ [])
 answered config ps m input message (Some t) =
     if is_built_answer t.kept message
     then record {

@@ -1,7 +1,8 @@
 -- The same step over what is kept of the history.
 use Rattle.std.specs.Prelude.{ℕ, ◌+◌, ◌%◌, Bool, true, false, ◌&&◌, max, List, [], ◌∷◌, ◌++◌, length, Option, Some, None, slice_get, Result, Ok, Err, if◌then◌else◌}
 use Rattle.radius_packet.specs.declared.reasons.Reason.{Reason}
-use Rattle.radius_packet.specs.declared.reasons.Reason.TheVariants.{NotYet}
+use Rattle.radius_packet.specs.declared.reasons.Reason.TheVariants as reasons
+use Rattle.radius_packet.specs.declared.reasons.Reason.TheVariants.{Unmatched, NotYet}
 use Rattle.diameter_message.specs.declared.fault.MessageFault.{MessageFault}
 use Rattle.diameter_message.specs.Message.{MessageParts, read_message}
 use Rattle.session_carrier.specs.declared.kept.Outcome.{Outcome}
@@ -10,14 +11,15 @@ use Rattle.access_map.specs.Answers.{is_answer, is_built_answer, outcome}
 use Rattle.session_carrier.specs.declared.kept.Kept.{Kept}
 use Rattle.pending_table.specs.declared.Key.{Key}
 use Rattle.pending_table.specs.declared.Entry.{Entry}
-use Rattle.pending_table.specs.declared.Answer.TheVariants.{Waiting}
+use Rattle.pending_table.specs.declared.Answer.{Answer}
+use Rattle.pending_table.specs.declared.Answer.TheVariants.{Waiting, Silent, Replied}
 use Rattle.pending_table.specs.Table as table
 use Rattle.peer_machine.specs.declared.Phase.{Phase}
 use Rattle.peer_machine.specs.declared.Phase.TheVariants.{Closed, Serving}
 use Rattle.agent_core.specs.declared.events.Input.{Input}
 use Rattle.agent_core.specs.declared.events.Input.TheVariants.{Datagram, Up, Ready, Message, Broken, Down, Tick, Drain, Leave}
 use Rattle.agent_core.specs.declared.events.Output.{Output}
-use Rattle.agent_core.specs.declared.events.Output.TheVariants.{Send, Dropped}
+use Rattle.agent_core.specs.declared.events.Output.TheVariants.{Reply, Send, Dropped}
 use Rattle.agent_core.specs.declared.ledger.Ledger.{Ledger}
 use Rattle.agent_core.specs.History.{Request, Rooms, verdict, refusal, is_serving, kept_of, request_sent, outcome_outputs, begins}
 
@@ -75,8 +77,13 @@ admitted S request (Some reason) = not_yet S
 admitted S request None =
     says (taken_up S request) (Send (request_sent S.config request S.used S.total S.serial) ∷ [])
 
+abbrev pub repeated : Key → Answer → List Output
+repeated key Waiting = Dropped reasons.Waiting ∷ []
+repeated key Silent = Dropped reasons.Silent ∷ []
+repeated key (Replied octets) = Reply key.via key.address key.port octets ∷ []
+
 abbrev pub requested : Ledger → Request → Option Entry → Next
-requested S request (Some e) = not_yet S
+requested S request (Some e) = says S (repeated request.key e.answer)
 requested S request None = admitted S request (refusal S.config (rooms_of S))
 
 abbrev pub datagram : Ledger → Result Request Reason → Next
@@ -94,7 +101,7 @@ with_client S message e (Some client) =
     says (settled S message.header.hop (outcome client e.kept message).reply) (outcome_outputs e.key (outcome client e.kept message))
 
 abbrev pub answered : Ledger → MessageParts → Option Entry → Next
-answered S message None = not_yet S
+answered S message None = says S (Dropped Unmatched ∷ [])
 answered S message (Some e) =
     if is_built_answer e.kept message
     then with_client S message e (slice_get S.config.clients e.kept.client)
@@ -124,6 +131,13 @@ act S Tick = not_yet S
 act S Drain = not_yet S
 act S Leave = not_yet S
 
+-- dead entries aren't kept
+abbrev pub purged : Ledger → Ledger
+purged S = record S { table = record S.table { entries = table.live S.table S.moment } }
+
+abbrev pub tidied : Next → Next
+tidied n = record { ledger = purged n.ledger; outputs = n.outputs }
+
 -- the effective moment is the greatest so far
 abbrev pub next : Ledger → ℕ → Input → Next
-next S m input = act (at_moment S m) input
+next S m input = tidied (act (at_moment S m) input)

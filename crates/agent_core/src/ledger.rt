@@ -1,6 +1,6 @@
 //! What the core keeps of the history: the settings, a few counts and the live entries.
 
-ghost use Rattle.std.specs.Prelude.{◌≡◌, ℕ, ◌<◌, ◌≤◌, [], ◌∷◌, IfOk, Ok, OnOk, OnErr, Some, slice_get, length};
+ghost use Rattle.std.specs.Prelude.{◌≡◌, ℕ, ◌<◌, ◌≤◌, [], ◌∷◌, IfOk, Ok, OnOk, OnErr, Some, slice_get, length, option_map};
 ghost use Rattle.radius_packet.specs.declared.reasons.Reason.TheVariants.{NotYet};
 ghost use Rattle.diameter_message.specs.Message.{read_message};
 ghost use Rattle.diameter_message.specs.View.{message_view};
@@ -63,6 +63,15 @@ pub(crate) enum Considered {
     },
 }
 
+/// What an answer leads to.
+#[derive(Drop)]
+pub(crate) enum Heard {
+    /// Nothing but these outputs.
+    Says(Outputs),
+    /// The request that it matches gets this reply, and these outputs go out.
+    Settles { outputs: Outputs, reply: Octets },
+}
+
 /// One output that says why nothing is done.
 fn dropped(alloc: Global, reason: Reason) -> Result<Outputs, NoMemory>
     ensures { IfOk result (λ o. o ≡ Output.Dropped reason ∷ []) }
@@ -96,6 +105,19 @@ fn replying(alloc: Global, key: &Key, reply: &[u8]) -> Result<Outputs, NoMemory>
     Ok(outputs)
 }
 
+/// What a request gets that comes again, by what the table has of it; None where it is new.
+fn repeated(alloc: Global, key: &Key, found: Found<'_>) -> Result<Option<Outputs>, NoMemory>
+    ensures { IfOk result (λ o. o ≡ option_map (machine.repeated key.now) (table.found_view found.entry)) }
+{
+    let outputs = match found {
+        Found::New => return Ok(None),
+        Found::Waiting => dropped(alloc, Reason::Waiting)?,
+        Found::Silent => dropped(alloc, Reason::Silent)?,
+        Found::Kept(reply) => replying(alloc, key, reply)?,
+    };
+    Ok(Some(outputs))
+}
+
 /// An answer to an AA-Request (RFC 6733, section 3).
 fn is_answer(header: &Header) -> bool
     ensures { result ≡ answers.is_answer header.now }
@@ -124,13 +146,6 @@ impl Ledger {
             serial: 0,
             table,
         })
-    }
-
-    /// Whether no live request has this key.
-    fn is_new(&self, key: &Key) -> bool
-        ensures { result ≡ is_none (table.find_key self.now.table key.now self.now.moment) }
-    {
-        matches!(self.table.look(key, self.moment), Found::New)
     }
 
     /// Why a new request is not taken up now.
@@ -225,8 +240,30 @@ impl Ledger {
         Ok((kept, sent))
     }
 
-    /// What a datagram leads to. Nothing is changed yet; a key that is known, or a refusal, isn't answered
-    /// otherwise in this form.
+    /// What a request with a new key leads to. A refusal isn't answered otherwise in this form.
+    fn admitted(
+        &self,
+        alloc: Global,
+        request: &Request<'_>,
+        key: Key,
+    ) -> Result<Considered, NoMemory>
+        requires steady { IsSteady self.now }
+        requires client { ClientInLimits request.now.settings.now }
+        requires judged { judgement request.now.settings.now request.now.packet ≡ Ok Kind2.Access }
+        requires unknown { table.find_key self.now.table key self.now.moment ≡ None }
+        ensures { IfOk result (Considers self.now (Ok (request_with key request.now))) }
+    {
+        match self.refusal() {
+            Some(_) => Ok(Considered::Says(dropped(alloc, Reason::NotYet)?)),
+            None => {
+                let (kept, sent) = self.prepare(alloc, request)?;
+                let outputs = sending(alloc, sent)?;
+                Ok(Considered::TakesUp { key, kept, outputs })
+            }
+        }
+    }
+
+    /// What a datagram leads to. Nothing is changed yet.
     fn considered(
         &self,
         alloc: Global,
@@ -248,16 +285,9 @@ impl Ledger {
             port,
             octets: Octets::copy(alloc, request.packet.whole())?,
         };
-        if !self.is_new(&key) {
-            return Ok(Considered::Says(dropped(alloc, Reason::NotYet)?));
-        }
-        match self.refusal() {
-            Some(_) => Ok(Considered::Says(dropped(alloc, Reason::NotYet)?)),
-            None => {
-                let (kept, sent) = self.prepare(alloc, &request)?;
-                let outputs = sending(alloc, sent)?;
-                Ok(Considered::TakesUp { key, kept, outputs })
-            }
+        match repeated(alloc, &key, self.table.look(&key, self.moment))? {
+            Some(outputs) => Ok(Considered::Says(outputs)),
+            None => self.admitted(alloc, &request, key),
         }
     }
 
@@ -304,19 +334,18 @@ impl Ledger {
         }
     }
 
-    /// What an answer gives the request that it matches: the outputs, and the reply that is kept. None where the
-    /// answer is of a form that isn't built.
+    /// What an answer gives the request that it matches.
     fn answered(
         &self,
         alloc: Global,
         entry: &Entry,
         message: &Message<'_>,
-    ) -> Result<Option<(Outputs, Octets)>, NoMemory>
+    ) -> Result<Heard, NoMemory>
         requires { KeptFits self.now.config entry.now.kept }
-        ensures { IfOk result (λ o. Answers self.now entry.now (message_view message.now) o) }
+        ensures { IfOk result (λ h. Answers self.now entry.now (message_view message.now) h) }
     {
         if !access_map::is_built_answer(&entry.kept, message) {
-            return Ok(None);
+            return Ok(Heard::Says(dropped(alloc, Reason::NotYet)?));
         }
         let client = &self.config.clients.as_slice()[entry.kept.client as usize];
         // In this form each answer has a reply, and nothing follows.
@@ -325,23 +354,19 @@ impl Ledger {
             follow: _follow,
         } = access_map::answer(alloc, client, &entry.kept, message, self.numbers())?;
         let Some(reply) = reply else {
-            return Ok(None);
+            return Ok(Heard::Says(dropped(alloc, Reason::NotYet)?));
         };
         let outputs = replying(alloc, &entry.key, reply.as_slice())?;
-        Ok(Some((outputs, reply)))
+        Ok(Heard::Settles { outputs, reply })
     }
 
-    /// The waiting request with this number on this link, and what the answer gives it.
-    fn matched(
-        &self,
-        alloc: Global,
-        message: &Message<'_>,
-    ) -> Result<Option<(Outputs, Octets)>, NoMemory>
+    /// What an answer leads to, by the waiting request with its number on this link.
+    fn matched(&self, alloc: Global, message: &Message<'_>) -> Result<Heard, NoMemory>
         requires { IsSteady self.now }
-        ensures { IfOk result (λ o. Matches self.now (message_view message.now) o) }
+        ensures { IfOk result (λ h. Matches self.now (message_view message.now) h) }
     {
         match self.table.find(self.link, message.header.hop, self.moment) {
-            None => Ok(None),
+            None => Ok(Heard::Says(dropped(alloc, Reason::Unmatched)?)),
             Some(entry) => self.answered(alloc, entry, message),
         }
     }
@@ -360,8 +385,8 @@ impl Ledger {
             return dropped(alloc, Reason::NotYet);
         }
         match self.matched(alloc, &message)? {
-            None => dropped(alloc, Reason::NotYet),
-            Some((outputs, reply)) => {
+            Heard::Says(outputs) => Ok(outputs),
+            Heard::Settles { outputs, reply } => {
                 let hop = message.header.hop;
                 self.table.settle(self.link, hop, self.moment, Some(reply));
                 Ok(outputs)
@@ -412,7 +437,8 @@ impl Ledger {
         }
     }
 
-    /// One step: the effective moment is the greatest so far. After an `Err` everything is as it was.
+    /// One step: the effective moment is the greatest so far. Dead entries are dropped where it isn't refused. After
+    /// an `Err` everything is as it was.
     pub(crate) fn step(
         &mut self,
         alloc: Global,
@@ -427,7 +453,10 @@ impl Ledger {
         let before = self.moment;
         self.moment = before.max(moment);
         match self.act(alloc, input) {
-            Ok(outputs) => Ok(outputs),
+            Ok(outputs) => {
+                self.table.purge(self.moment);
+                Ok(outputs)
+            }
             Err(refused) => {
                 self.moment = before;
                 Err(refused)

@@ -54,7 +54,7 @@ mod tests {
             matches!(
                 outputs.as_slice(),
                 [Output::Dropped {
-                    reason: Reason::NotYet
+                    reason: Reason::UnknownClient
                 }]
             )
         );

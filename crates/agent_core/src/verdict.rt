@@ -69,7 +69,7 @@ pub(crate) fn verdict<'a>(
     agent_config::found_stands_at_place();
     agent_config::clients_are_in_limits();
     match config.clients.by_address(address) {
-        None => Err(Reason::NotYet),
+        None => Err(Reason::UnknownClient),
         Some((client, settings)) => match via {
             Via::Acct => Err(Reason::NotYet),
             Via::Auth => packet_verdict(client, settings, address, octets),
