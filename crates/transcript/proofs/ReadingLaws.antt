@@ -101,7 +101,7 @@ none-taken (fault.Bad number reason) before left old taken held (n, r, (xs, (mor
     (n, r, long-line old before left xs more unended begins long)
 none-taken fault.Long before left old taken held (xs, (x, unended, begins, full)) =
     (xs, (x, unended, begins, ap (λ (h : Held). h.passed + length xs) (sym held) ∙ full))
-none-taken fault.NoMemory before left old taken held takes = tt
+none-taken fault.NoMemory before left old taken held takes = takes
 
 -- the first line of what was to come says nothing
 pub nothing-said : (section : Section) (addresses : List ℕ) (number : ℕ) {before now : Option (List ℕ)} (octets : List ℕ)

@@ -78,7 +78,7 @@ pub cut-fault : (fault : RawFault) (before left : Option (List ℕ)) (old mid ne
     → TakesNone fault before left old new
 cut-fault raw.Read before left old mid new taken unended cuts = absurd cuts
 cut-fault raw.TooMuch before left old mid new taken unended cuts = absurd cuts
-cut-fault raw.NoMemory before left old mid new taken unended cuts = tt
+cut-fault raw.NoMemory before left old mid new taken unended cuts = (mid.line ++ mid.held.octets, Consumes-append taken (Consumes-held mid left))
 cut-fault raw.LongLine before left old mid new taken unended (piece, (more, whole, is, long)) =
     let front = ap (λ xs. mid.line ++ xs) is ∙ sym (append_assoc mid.line piece more) in (
       mid.line ++ piece,

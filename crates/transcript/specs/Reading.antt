@@ -105,7 +105,7 @@ TakesNoOctets (fault.Bad n reason) number before left old = (n ≡ number) × (r
     × ((xs : List ℕ) × ((more : List ℕ) × IsUnended xs × Consumes before left (xs ++ more) × (140000 < length xs)))
 TakesNoOctets fault.Long number before left old = (xs : List ℕ) × ((x : ℕ) × IsUnended xs × Consumes before left (xs ++ x ∷ [])
     × (old.held.passed + length xs ≡ 1099511627776))
-TakesNoOctets fault.NoMemory number before left old = ⊤
+TakesNoOctets fault.NoMemory number before left old = (xs : List ℕ) × Consumes before left xs
 
 -- why the next line wasn't read: the source failed within it, it may not stand there, the source has too many
 -- octets, or memory was wanting
@@ -119,7 +119,7 @@ ReadsNone (fault.Bad number reason) before left old =
     (number ≡ old.number + 1) × (reason ≡ 99) × SaysNothing before old
 ReadsNone fault.Long before left old = (xs : List ℕ) × ((x : ℕ) × IsUnended xs × Consumes before left (xs ++ x ∷ [])
     × (old.held.passed + length xs ≡ 1099511627776))
-ReadsNone fault.NoMemory before left old = ⊤
+ReadsNone fault.NoMemory before left old = (xs : List ℕ) × Consumes before left xs
 
 -- what asking for the next line answers while the reading goes on
 abbrev pub Answers : Result (Option Line) LineFault → Option (List ℕ) → Option (List ℕ) → Reader → Reader → Type 0

@@ -1,5 +1,6 @@
 -- A transcript's run line by line, up to the first line that may not stand where it stands (profile).
 use Rattle.std.specs.Prelude.{◌≡◌, ℕ, List, [], ◌∷◌, ◌++◌, Option, Some, None, option_map}
+use Rattle.std.specs.List.{flat_map}
 use Rattle.std.specs.Option.{option_map_or}
 use Rattle.agent_config.specs.declared.config.Config.{Config}
 use Rattle.agent_config.specs.Config.{with_client}
@@ -57,6 +58,15 @@ run_from stage (line ∷ lines) =
 
 abbrev pub run_of : List ℕ → Run
 run_of text = run_from Start (lines_of text)
+
+-- what these lines print, one after another, up to the first that may not stand where it stands, without an end line
+abbrev pub printed_by : Stage → List (List ℕ) → List ℕ
+printed_by stage [] = []
+printed_by stage (line ∷ lines) = option_map_or (λ s. s.1 ++ printed_by s.0 lines) (step stage line) []
+
+-- these lines as octets, each ended by the octet 0a
+abbrev pub ended_text : List (List ℕ) → List ℕ
+ended_text lines = flat_map (λ line. line ++ 10 ∷ []) lines
 
 -- what a run prints that doesn't stop before the end
 abbrev pub whole_text : Run → Option (List ℕ)

@@ -69,13 +69,13 @@ SourceEnded (Ok End) = ⊤
 SourceEnded (Err fault) = ⊥
 
 -- why there is none: these octets of a line came before the source failed, or before it gave more than may be
--- taken of it, or were too many for one line
+-- taken of it, or were too many for one line, or these octets were taken before memory was wanting
 abbrev pub TakesNone : RawFault → Option (List ℕ) → Option (List ℕ) → Cutting → Cutting → Type 0
 TakesNone raw.Read before left old new = (xs : List ℕ) × IsUnended xs × Consumes before left xs
 TakesNone raw.TooMuch before left old new = (xs : List ℕ) × ((x : ℕ) × IsUnended xs × Consumes before left (xs ++ x ∷ [])
     × (old.held.passed + length xs ≡ 1099511627776))
 TakesNone raw.LongLine before left old new = (xs : List ℕ) × ((more : List ℕ) × IsUnended xs × Consumes before left (xs ++ more) × (140000 < length xs))
-TakesNone raw.NoMemory before left old new = ⊤
+TakesNone raw.NoMemory before left old new = (xs : List ℕ) × Consumes before left xs
 
 -- the same fault of a line
 abbrev pub IsTakeFault : TakeFault → RawFault → Type 0

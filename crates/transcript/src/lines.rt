@@ -44,6 +44,7 @@ impl<'a, S: Source> Lines<'a, S> {
         ensures refused { IfErr result (λ fault. self.new.reader.progress ≡ Refused fault) }
         ensures over { IsOver self.old.reader.progress → (self.new.reader ≡ self.old.reader) × (self.new.source.now ≡ self.old.source.now) }
         ensures few { OnOk result (self.new.reader.number ≤ 1099511627776) }
+        ensures limit { self.new.reader.held.passed ≤ 1099511627776 }
         ensures ended { self.old.reader.progress ≡ Reading → self.new.reader.progress ≡ Ended
             → Rose (S.ends self.old.source.now) (S.ends self.new.source.now) }
         ensures ends_stay { S.ends self.old.source.now ≤ S.ends self.new.source.now }

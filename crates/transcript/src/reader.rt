@@ -230,6 +230,7 @@ impl LineReader {
         ensures refused { IfErr result (λ fault. self.new.progress ≡ Refused fault) }
         ensures over { IsOver self.old.progress → (self.new ≡ self.old) × (source.new ≡ source.old) }
         ensures few { OnOk result (self.new.number ≤ 1099511627776) }
+        ensures limit { self.new.held.passed ≤ 1099511627776 }
         ensures ended { self.old.progress ≡ Reading → self.new.progress ≡ Ended → Rose (S.ends source.old) (S.ends source.new) }
         ensures ends_stay { S.ends source.old ≤ S.ends source.new }
         ensures counts_faults { self.old.progress ≡ Reading → Counts (result ≡ Err Read) (S.faults source.old) (S.faults source.new) }
