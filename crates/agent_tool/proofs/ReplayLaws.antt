@@ -3,8 +3,8 @@ use Rattle.std.proofs.Common.{◌≡◌, ℕ, ◌+◌, ◌*◌, ◌≤◌, ◌�
 use Rattle.std.specs.List.{flat_map}
 use Rattle.std.specs.Option.{option_map, option_map_or}
 use Rattle.std.proofs.lemmas.List.{length-append, map-append}
-use Rattle.wire_core.specs.Sink.{Appends}
-use Rattle.wire_core.proofs.SinkLaws.{Appends-none}
+use Rattle.wire_core.specs.Sink.{Appends, AppendsPrefix}
+use Rattle.wire_core.proofs.SinkLaws.{Appends-none, AppendsPrefix-whole}
 use Rattle.agent_config.specs.declared.client.Client.{Client}
 use Rattle.agent_config.specs.declared.config.Config.{Config}
 use Rattle.agent_config.specs.Config.{ClientKeepsLimits, InLimits, with_client}
@@ -22,7 +22,7 @@ use Rattle.transcript.specs.declared.reader.Section.TheVariants as section
 use Rattle.agent_tool.specs.declared.session.Counts.{Counts}
 use Rattle.agent_tool.specs.declared.session.Session.{Session}
 use Rattle.agent_tool.specs.declared.session.Session.TheVariants.{Start, Clients, Running}
-use Rattle.agent_tool.specs.Session.{AtMost, CanFollow, Followed, GoesOn, IsBegun, RunsAt, event_text}
+use Rattle.agent_tool.specs.Session.{AtMost, CanFollow, Followed, FollowedPart, GoesOn, IsBegun, RunsAt, event_text}
 use Rattle.agent_tool.specs.Replay.{HasAddresses, IsAt, ReadsAt, section_of}
 use Rattle.agent_tool.proofs.LineLaws.{Bare, Fresh, agent-bare, client-fresh, client-same, said-agent, said-client, said-event}
 
@@ -35,6 +35,7 @@ pub record Advances (session : Session) (now : Stage) (new : Reader) (said : Lin
   pub reads : ReadsAt new next
   pub follows : (after : Session) (before written : Option (List ℕ)) → Followed session said after before written
       → IsAt after next × Appends before written text
+  pub part : (before written : Option (List ℕ)) → FollowedPart session said before written → AppendsPrefix before written text
 
 -- what the reader keeps after a line
 record ReadOn (old new : Reader) (said : Line) : Type 0 where
@@ -44,6 +45,9 @@ record ReadOn (old new : Reader) (said : Line) : Type 0 where
 
 same-written : (before written : Option (List ℕ)) → written ≡ before → Appends before written []
 same-written before written same = rw same (Appends-none before)
+
+same-part : (before written : Option (List ℕ)) → written ≡ before → AppendsPrefix before written []
+same-part before written same = AppendsPrefix-whole (same-written before written same)
 
 at-clients : (session : Session) (random : RandomState) (config : Config) → session ≡ Clients random config → InLimits config
     → IsAt session (stage.Clients config)
@@ -64,6 +68,7 @@ advance-agent random old new octets config at is on =
         number = omega (arith, on.number, at.number, ap length bare.clients);
       };
       follows = λ after before written f. (at-clients after random config f.0 bare.limits, same-written before written f.1);
+      part = λ before written same. same-part before written same;
     }
 
 advance-client : ClientKeepsLimits → (random : RandomState) (config : Config) (old new : Reader) (octets : List ℕ) (client : Client)
@@ -93,6 +98,7 @@ advance-client law random config old new octets client limits at is on =
         at-clients after random (with_client config client) f.0 kept,
         same-written before written f.1,
       );
+      part = λ before written same. same-part before written same;
     }
 
 -- the event's text, on its line
@@ -101,6 +107,12 @@ written-on : (number : ℕ) (config : Config) (ps : List Place) (e : Event) (bef
     → Appends before written (place_text config ps (place config ps e))
 written-on number config ps e before written is wrote =
     subst (λ n. Appends before written (flat_map (output_line n) (place config ps e).outputs)) is wrote
+
+part-on : (number : ℕ) (config : Config) (ps : List Place) (e : Event) (before written : Option (List ℕ))
+    → number ≡ event_number config ps → AppendsPrefix before written (event_text number config ps e)
+    → AppendsPrefix before written (place_text config ps (place config ps e))
+part-on number config ps e before written is wrote =
+    subst (λ n. AppendsPrefix before written (flat_map (output_line n) (place config ps e).outputs)) is wrote
 
 begun-at : (after : Session) (config : Config) (number : ℕ) (e : Event) (before written : Option (List ℕ))
     → number ≡ event_number config [] → IsBegun after config number e before written
@@ -145,6 +157,7 @@ advance-first random config old new octets e limits at none is on = record {
   steps = first-step config octets e none is;
   reads = record { section = on.section; addresses = tt; number = omega (arith, on.number, at.number) };
   follows = λ after before written f. begun-at after config (old.number + 1) e before written at.number (f e.input refl);
+  part = λ before written f. part-on (old.number + 1) config [] e before written at.number (f e.input refl);
 }
 
 advance-event : (core : Ledger) (counts : Counts) (config : Config) (ps : List Place) (old new : Reader) (octets : List ℕ) (e : Event)
@@ -167,6 +180,7 @@ advance-event core counts config ps old new octets e runs few short at is on = r
   steps = ap (option_map (λ (e : Event). (stage.Events config (place config ps e ∷ ps), place_text config ps (place config ps e)))) is;
   reads = record { section = on.section; addresses = tt; number = omega (arith, on.number, at.number) };
   follows = λ after before written f. gone-on after core counts config ps (old.number + 1) e before written at.number runs few (f e.input refl);
+  part = λ before written f. part-on (old.number + 1) config ps e before written at.number (f e.input refl config ps runs);
 }
 
 -- ---- each line that was read

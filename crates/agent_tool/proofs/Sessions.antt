@@ -1,6 +1,10 @@
 -- A session goes on by an event.
-use Rattle.std.proofs.Common.{◌≡◌, ℕ, ◌+◌, ◌*◌, ◌<◌, ◌≤◌, List, [], ◌∷◌, ◌++◌, length, Option, Bool, true, false, cond, refl, sym, ◌∙◌, ap, subst, arith}
-use Rattle.std.specs.Prelude.{count_by}
+use Rattle.std.proofs.Common.{◌≡◌, ℕ, ◌+◌, ◌*◌, ◌<◌, ◌≤◌, List, [], ◌∷◌, ◌++◌, length, take, drop, append_assoc, Option, Some, Bool, true, false, cond, refl, sym, ◌∙◌, ap, subst, arith}
+use Rattle.std.specs.Prelude.{count_by, slice_get}
+use Rattle.std.proofs.lemmas.List.{drop_more, take-append-drop}
+use Rattle.std.proofs.lemmas.Option.{get_or_from_slice_get, slice_get_within}
+use Rattle.std.proofs.lemmas.Grind.{flat_map-append}
+use Rattle.std.proofs.lemmas.List.Concat.{flat_map-cons}
 use Rattle.std.proofs.lemmas.List.Sums.{count_by-le-length, sum_by-cons}
 use Rattle.std.specs.List.{flat_map}
 use Rattle.wire_core.specs.Sink.{Appends}
@@ -54,3 +58,16 @@ runs-on few goes core new counts after number e outputs before now answers stand
       };
       stands = (some.0 ++ e ∷ [], stands some.0 some.1);
     }
+
+-- the lines before an output, its own, and those after it
+pub lines-cut : (number : ℕ) (outputs : List Output) (i : ℕ) (o : Output) → slice_get outputs i ≡ Some o
+    → flat_map (output_line number) outputs
+    ≡ (flat_map (output_line number) (take i outputs) ++ output_line number o) ++ flat_map (output_line number) (drop (i + 1) outputs)
+lines-cut number outputs i o at =
+    let line = output_line number in
+    let front = flat_map line (take i outputs) in
+    let rest = drop (i + 1) outputs in
+    ap (flat_map line) (sym (take-append-drop i outputs) ∙ ap (λ r. take i outputs ++ r) (drop_more outputs i o (slice_get_within outputs i o at) ∙ ap (λ x. x ∷ rest) (get_or_from_slice_get outputs i o o at)))
+    ∙ flat_map-append line (take i outputs) (o ∷ rest)
+    ∙ ap (λ r. front ++ r) (flat_map-cons line o rest)
+    ∙ sym (append_assoc front (line o) (flat_map line rest))

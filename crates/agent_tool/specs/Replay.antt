@@ -10,11 +10,14 @@ use Rattle.wire_core.specs.Counts.{Rose}
 use Rattle.transcript.specs.declared.reader.Progress.{Progress}
 use Rattle.transcript.specs.declared.reader.Progress.TheVariants.{Reading, Ended, Refused}
 use Rattle.transcript.specs.Reading.{Reader, rest}
-use Rattle.transcript.specs.Run.{Stage, line_number, print_first, run_from, run_of}
+use Rattle.std.specs.List.{AllByRecursion}
+use Rattle.transcript.specs.Streams.{IsUnended}
+use Rattle.transcript.specs.Run.{Stage, ended_text, line_number, print_first, printed_by, run_from, run_of}
 use Rattle.transcript.specs.Words.{lines_of}
 use Rattle.transcript.specs.Run as stage
 use Rattle.agent_tool.specs.declared.session.Session.{Session}
 use Rattle.agent_tool.specs.declared.session.Session.TheVariants.{Start, Clients, Running}
+use Rattle.agent_tool.specs.Promise.{AreLines}
 use Rattle.agent_tool.specs.Session.{AtMost, RunsAt}
 
 -- the session is that of the lines so far
@@ -46,10 +49,22 @@ ReadsOn Reading before now = ⊤
 ReadsOn Ended before now = Rose before now
 ReadsOn (Refused fault) before now = ⊥
 
--- the run of this text is here, and what is still to come of it is what the reader has still to read
+-- the octets of the lines so far: while the reading goes on each has been ended by the octet 0a
+abbrev pub IsRead : Progress → List ℕ → List (List ℕ) → Type 0
+IsRead Reading octets lines = octets ≡ ended_text lines
+IsRead progress octets lines = AreLines octets lines
+
+-- the run of this text is here, after these lines, and what is still to come of it is what the reader has still to
+-- read
 pub record IsInRun (text : List ℕ) (now : Stage) (printed : List ℕ) (reader : Reader) (left : Option (List ℕ)) : Type 0 where
+  pub lines : List (List ℕ)
+  pub each : AllByRecursion IsUnended lines
+  pub taken : List ℕ
+  pub is_read : IsRead reader.progress taken lines
+  pub goes_on : (more : List (List ℕ)) → printed_by stage.Start (lines ++ more) ≡ printed ++ printed_by now more
   pub to_come : List ℕ
   pub is_to_come : rest reader left ≡ Some to_come
+  pub cut : text ≡ taken ++ to_come
   pub runs : run_of text ≡ print_first printed (run_from now (lines_of to_come))
   pub octets : length text ≡ reader.held.passed + length to_come
 

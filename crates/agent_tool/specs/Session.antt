@@ -1,7 +1,7 @@
 -- What a replay knows of the lines so far, and what a line does.
 use Rattle.std.specs.Prelude.{◌≡◌, ℕ, ◌+◌, ◌*◌, ◌<◌, ◌≤◌, List, [], ◌∷◌, ◌++◌, length, map, count_by, Option, Some, None, ⊤}
 use Rattle.std.specs.List.{flat_map}
-use Rattle.wire_core.specs.Sink.{Appends}
+use Rattle.wire_core.specs.Sink.{Appends, AppendsPrefix}
 use Rattle.agent_config.specs.declared.client.Client.{Client}
 use Rattle.agent_config.specs.declared.config.Config.{Config}
 use Rattle.agent_config.specs.Config.{InLimits, ClientInLimits, find_address, with_client}
@@ -59,6 +59,11 @@ event_text number config ps e = flat_map (output_line number) (place config ps e
 abbrev pub Stands : Ledger → Type 0
 Stands core = (history : List Event) × StandsFor core history
 
+-- of the text of the event's outputs a prefix was written
+abbrev pub PrintsPart : Ledger → Counts → ℕ → Event → Option (List ℕ) → Option (List ℕ) → Type 0
+PrintsPart core counts number e before now = (config : Config) (ps : List Place) → RunsAt core counts config ps
+    → AppendsPrefix before now (event_text number config ps e)
+
 -- one more event was run
 pub record RunsOn (core new : Ledger) (counts after : Counts) (number : ℕ) (e : Event) (before now : Option (List ℕ)) : Type 0 where
   pub on : (config : Config) (ps : List Place) → RunsAt core counts config ps
@@ -97,6 +102,14 @@ Followed (Clients random config) (line.Event number moment inputs) new before no
 Followed (Running core counts) (line.Event number moment inputs) new before now =
     (x : Input) → inputs ≡ x ∷ [] → GoesOn new core counts number (record { moment = moment; input = x }) before now
 Followed session said new before now = ⊥
+
+-- what a line did that wasn't followed to its end: of its outputs' text a prefix was written
+abbrev pub FollowedPart : Session → Line → Option (List ℕ) → Option (List ℕ) → Type 0
+FollowedPart (Clients random config) (line.Event number moment inputs) before now =
+    (x : Input) → inputs ≡ x ∷ [] → AppendsPrefix before now (event_text number config [] (record { moment = moment; input = x }))
+FollowedPart (Running core counts) (line.Event number moment inputs) before now =
+    (x : Input) → inputs ≡ x ∷ [] → PrintsPart core counts number (record { moment = moment; input = x }) before now
+FollowedPart session said before now = now ≡ before
 
 abbrev pub counts_so_far : Session → Counts
 counts_so_far (Start random) = no_counts

@@ -1,9 +1,10 @@
 //! The command that the words of the command line name.
 
-ghost use Rattle.std.specs.Prelude.{◌≡◌, ◌<◌, ◌↔◌, List, ℕ, Some, false, length};
+ghost use Rattle.std.specs.Prelude.{◌≡◌, ◌<◌, ◌≤◌, ◌⊎◌, ◌↔◌, List, ℕ, Some, false, true, length};
 ghost use Rattle.wire_core.specs.Counts.{Rose};
 ghost use Rattle.agent_tool.specs.Command.{is_replay as is_replay_words};
-ghost use Rattle.agent_tool.specs.Promise.{RepliesWhole, StopsAt};
+ghost use Rattle.transcript.specs.Text.{text_of};
+ghost use Rattle.agent_tool.specs.Promise.{BreaksOff, FailsWriting, Overruns, RepliesWhole, StopsAt, WritesPart};
 
 use crate::replay::replay;
 use crate::status::Status;
@@ -39,7 +40,20 @@ pub fn agent<S: Source, K: Sink>(
     ensures reason { (line reason : ℕ) → result ≡ Status.BadTranscript line reason → reason ≡ 99 }
     ensures read { result ≡ Status.ReadFault → Rose (S.faults input.old) (S.faults input.new) }
     ensures write { result ≡ Status.WriteFault → Rose (K.faults output.old) (K.faults output.new) }
+    ensures broken { result ≡ Status.ReadFault → (X : List ℕ) → S.left input.old ≡ Some X
+        → BreaksOff X (S.left input.new) (K.written output.old) (K.written output.new) }
+    ensures part { result ≡ Status.WriteFault → (X : List ℕ) → S.left input.old ≡ Some X
+        → FailsWriting X (S.left input.new) (K.written output.old) (K.written output.new) }
+    ensures memory { result ≡ Status.OutOfMemory → (X : List ℕ) → S.left input.old ≡ Some X
+        → WritesPart X (S.left input.new) (K.written output.old) (K.written output.new) }
     ensures long { result ≡ Status.TooLong → (X : List ℕ) → S.left input.old ≡ Some X → 1099511627776 < length X }
+    ensures overrun { result ≡ Status.TooLong → (X : List ℕ) → S.left input.old ≡ Some X
+        → Overruns X (S.left input.new) (K.written output.old) (K.written output.new) }
+    ensures short { result ≡ Status.Done → (X : List ℕ) → S.left input.old ≡ Some X → length X ≤ 1099511627776 }
+    ensures complete { is_replay_words words.now ≡ true
+        → (X text : List ℕ) → S.left input.old ≡ Some X → text_of X ≡ Some text → length X ≤ 1099511627776
+        → ¬ Rose (S.faults input.old) (S.faults input.new) → ¬ Rose (K.faults output.old) (K.faults output.new)
+        → (result ≡ Status.Done) ⊎ (result ≡ Status.OutOfMemory) }
 {
     if is_replay(words) {
         replay(alloc, random, input, output)

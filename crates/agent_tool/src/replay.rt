@@ -1,17 +1,18 @@
 //! The command `replay`.
 
-ghost use Rattle.std.specs.Prelude.{◌≡◌, ◌<◌, ◌≤◌, List, ℕ, Some, length};
+ghost use Rattle.std.specs.Prelude.{◌≡◌, ◌<◌, ◌≤◌, ◌⊎◌, List, ℕ, Some, length};
 ghost use Rattle.wire_core.specs.Counts.{Rose};
 ghost use Rattle.transcript.specs.Reading.{start};
 ghost use Rattle.agent_tool.specs.Command.{IsOfRun};
-ghost use Rattle.agent_tool.specs.Promise.{RepliesWhole, StopsAt};
+ghost use Rattle.transcript.specs.Text.{text_of};
+ghost use Rattle.agent_tool.specs.Promise.{BreaksOff, FailsWriting, Overruns, RepliesWhole, StopsAt, WritesPart};
 ghost use Rattle.agent_tool.specs.Status.{fault_status};
 
 use crate::session::{Session, finish, follow};
 use crate::status::Status;
 use std::alloc::Global;
 use std::hash::RandomState;
-use transcript::{LineFault, Lines};
+use transcript::{LineFault, LineReader, Lines};
 use wire_core::{Sink, Source};
 
 fn status_of(fault: LineFault) -> Status
@@ -44,8 +45,18 @@ fn follow_all<S: Source, K: Sink>(
     ensures reason { (line reason : ℕ) → result ≡ Status.BadTranscript line reason → reason ≡ 99 }
     ensures read { result ≡ Status.ReadFault → Rose (S.faults lines.old.source.now) (S.faults lines.new.source.now) }
     ensures write { result ≡ Status.WriteFault → Rose (K.faults output.old) (K.faults output.new) }
+    ensures broken { result ≡ Status.ReadFault → (X : List ℕ) → S.left lines.old.source.now ≡ Some X
+        → BreaksOff X (S.left lines.new.source.now) (K.written output.old) (K.written output.new) }
+    ensures part { result ≡ Status.WriteFault → (X : List ℕ) → S.left lines.old.source.now ≡ Some X
+        → FailsWriting X (S.left lines.new.source.now) (K.written output.old) (K.written output.new) }
+    ensures memory { result ≡ Status.OutOfMemory → (X : List ℕ) → S.left lines.old.source.now ≡ Some X
+        → WritesPart X (S.left lines.new.source.now) (K.written output.old) (K.written output.new) }
     ensures long { result ≡ Status.TooLong
         → (X : List ℕ) → S.left lines.old.source.now ≡ Some X → 1099511627776 < length X }
+    ensures overrun { result ≡ Status.TooLong → (X : List ℕ) → S.left lines.old.source.now ≡ Some X
+        → Overruns X (S.left lines.new.source.now) (K.written output.old) (K.written output.new) }
+    ensures short { result ≡ Status.Done
+        → (X : List ℕ) → S.left lines.old.source.now ≡ Some X → length X ≤ 1099511627776 }
 {
     transcript::run_prints_text();
     agent_config::client_keeps_limits();
@@ -79,11 +90,26 @@ pub fn replay<S: Source, K: Sink>(
     ensures reason { (line reason : ℕ) → result ≡ Status.BadTranscript line reason → reason ≡ 99 }
     ensures read { result ≡ Status.ReadFault → Rose (S.faults input.old) (S.faults input.new) }
     ensures write { result ≡ Status.WriteFault → Rose (K.faults output.old) (K.faults output.new) }
+    ensures broken { result ≡ Status.ReadFault → (X : List ℕ) → S.left input.old ≡ Some X
+        → BreaksOff X (S.left input.new) (K.written output.old) (K.written output.new) }
+    ensures part { result ≡ Status.WriteFault → (X : List ℕ) → S.left input.old ≡ Some X
+        → FailsWriting X (S.left input.new) (K.written output.old) (K.written output.new) }
+    ensures memory { result ≡ Status.OutOfMemory → (X : List ℕ) → S.left input.old ≡ Some X
+        → WritesPart X (S.left input.new) (K.written output.old) (K.written output.new) }
     ensures long { result ≡ Status.TooLong → (X : List ℕ) → S.left input.old ≡ Some X → 1099511627776 < length X }
+    ensures overrun { result ≡ Status.TooLong → (X : List ℕ) → S.left input.old ≡ Some X
+        → Overruns X (S.left input.new) (K.written output.old) (K.written output.new) }
+    ensures short { result ≡ Status.Done → (X : List ℕ) → S.left input.old ≡ Some X → length X ≤ 1099511627776 }
+    ensures complete { (X text : List ℕ) → S.left input.old ≡ Some X → text_of X ≡ Some text → length X ≤ 1099511627776
+        → ¬ Rose (S.faults input.old) (S.faults input.new) → ¬ Rose (K.faults output.old) (K.faults output.new)
+        → (result ≡ Status.Done) ⊎ (result ≡ Status.OutOfMemory) }
 {
-    let Ok(mut lines) = Lines::new(alloc, input) else {
+    transcript::run_prints_text();
+    // The memory of the reading is taken first: where it is wanting, the input is as it was.
+    let Ok(reader) = LineReader::new(alloc) else {
         return Status::OutOfMemory;
     };
+    let mut lines = Lines::over(input, reader);
     let status = follow_all(alloc, random, &mut lines, output);
     lines.into_source();
     status

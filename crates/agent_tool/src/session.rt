@@ -1,13 +1,13 @@
 //! What a replay knows of the lines so far.
 
-ghost use Rattle.std.specs.Prelude.{◌≡◌, ◌+◌, ◌≤◌, ℕ, count_by, Err, IfOk, IfErr, OnOk, length};
+ghost use Rattle.std.specs.Prelude.{◌≡◌, ◌+◌, ◌≤◌, ℕ, [], count_by, Err, IfOk, IfErr, OnOk, length};
 ghost use Rattle.std.specs.List.{flat_map};
 ghost use Rattle.wire_core.specs.Counts.{Rose};
-ghost use Rattle.wire_core.specs.Sink.{Appends};
+ghost use Rattle.wire_core.specs.Sink.{Appends, AppendsPrefix};
 ghost use Rattle.transcript.specs.Text.{output_line, is_reply as reply_test, is_send as send_test, is_drop as drop_test};
 ghost use Rattle.agent_config.specs.Config.{InLimits, with_client};
 ghost use Rattle.agent_core.specs.History.{Event};
-ghost use Rattle.agent_tool.specs.Session.{AtMost, CanFollow, Followed, GoesOn, IsBegun, IsDone, IsFailure, RunsOn, Stands, counted, counts_so_far, end_of, no_counts};
+ghost use Rattle.agent_tool.specs.Session.{AtMost, CanFollow, Followed, FollowedPart, GoesOn, IsBegun, IsDone, IsFailure, PrintsPart, RunsOn, Stands, counted, counts_so_far, end_of, event_text, no_counts};
 
 use crate::status::Status;
 use agent_config::{Client, Config};
@@ -104,6 +104,7 @@ fn write_output<K: Sink>(
     sink: &mut K,
 ) -> Result<(), Status>
     ensures written { OnOk result (Appends (K.written sink.old) (K.written sink.new) (output_line number output.now)) }
+    ensures part { AppendsPrefix (K.written sink.old) (K.written sink.new) (output_line number output.now) }
     ensures fault { result ≡ Err Status.WriteFault → Rose (K.faults sink.old) (K.faults sink.new) }
     ensures failure { IfErr result IsFailure }
     ensures faults_stay { K.faults sink.old ≤ K.faults sink.new }
@@ -126,6 +127,7 @@ fn write_outputs<K: Sink>(
 ) -> Result<(), Status>
     ensures written { OnOk result
         (Appends (K.written sink.old) (K.written sink.new) (flat_map (output_line number) outputs.now)) }
+    ensures part { AppendsPrefix (K.written sink.old) (K.written sink.new) (flat_map (output_line number) outputs.now) }
     ensures fault { result ≡ Err Status.WriteFault → Rose (K.faults sink.old) (K.faults sink.new) }
     ensures failure { IfErr result IsFailure }
     ensures faults_stay { K.faults sink.old ≤ K.faults sink.new }
@@ -153,6 +155,8 @@ fn run_event<K: Sink>(
     requires stands { Stands core.old }
     ensures runs { OnOk result (RunsOn core.old core.new counts.old counts.new number
         (record { moment = moment; input = input.now }) (K.written sink.old) (K.written sink.new)) }
+    ensures part { PrintsPart core.old counts.old number (record { moment = moment; input = input.now })
+        (K.written sink.old) (K.written sink.new) }
     ensures fault { result ≡ Err Status.WriteFault → Rose (K.faults sink.old) (K.faults sink.new) }
     ensures failure { IfErr result IsFailure }
     ensures faults_stay { K.faults sink.old ≤ K.faults sink.new }
@@ -195,6 +199,8 @@ fn begin<K: Sink>(
 ) -> Result<Session, Status>
     requires { InLimits config }
     ensures begun { IfOk result (λ new. IsBegun new config number (record { moment = moment; input = input.now }) (K.written sink.old) (K.written sink.new)) }
+    ensures part { AppendsPrefix (K.written sink.old) (K.written sink.new)
+        (event_text number config [] (record { moment = moment; input = input.now })) }
     ensures fault { result ≡ Err Status.WriteFault → Rose (K.faults sink.old) (K.faults sink.new) }
     ensures failure { IfErr result IsFailure }
     ensures faults_stay { K.faults sink.old ≤ K.faults sink.new }
@@ -222,6 +228,8 @@ fn go_on<K: Sink>(
     requires few { AtMost counts 4398046511104 }
     requires stands { Stands core }
     ensures runs { IfOk result (λ new. GoesOn new core counts number (record { moment = moment; input = input.now }) (K.written sink.old) (K.written sink.new)) }
+    ensures part { PrintsPart core counts number (record { moment = moment; input = input.now })
+        (K.written sink.old) (K.written sink.new) }
     ensures fault { result ≡ Err Status.WriteFault → Rose (K.faults sink.old) (K.faults sink.new) }
     ensures failure { IfErr result IsFailure }
     ensures faults_stay { K.faults sink.old ≤ K.faults sink.new }
@@ -241,6 +249,7 @@ pub(crate) fn follow<K: Sink>(
 ) -> Result<Session, Status>
     requires { CanFollow session line }
     ensures follows { IfOk result (λ new. Followed session line new (K.written sink.old) (K.written sink.new)) }
+    ensures part { FollowedPart session line (K.written sink.old) (K.written sink.new) }
     ensures fault { result ≡ Err Status.WriteFault → Rose (K.faults sink.old) (K.faults sink.new) }
     ensures failure { IfErr result IsFailure }
     ensures faults_stay { K.faults sink.old ≤ K.faults sink.new }
@@ -299,6 +308,8 @@ fn counts_of(session: &Session) -> Counts
 /// Prints the end line.
 pub(crate) fn finish<K: Sink>(alloc: Global, session: &Session, sink: &mut K) -> Status
     ensures done { result ≡ Status.Done → Appends (K.written sink.old) (K.written sink.new) (end_of session.now) }
+    ensures part { AppendsPrefix (K.written sink.old) (K.written sink.new) (end_of session.now) }
+    ensures memory { result ≡ Status.OutOfMemory → K.written sink.new ≡ K.written sink.old }
     ensures ends { IsDone result }
     ensures fault { result ≡ Status.WriteFault → Rose (K.faults sink.old) (K.faults sink.new) }
     ensures faults_stay { K.faults sink.old ≤ K.faults sink.new }

@@ -24,6 +24,7 @@ pub use line::{Inputs, Line};
 pub use line_fault::LineFault;
 pub use lines::Lines;
 pub use printing::{print, print_end};
+pub use reader::LineReader;
 
 #[cfg(test)]
 mod tests;

@@ -28,10 +28,17 @@ impl<'a, S: Source> Lines<'a, S> {
         ensures { IfOk result (λ lines. (lines.source.ghost_name ≡ source.entry.ghost_name)
             × (lines.source.now ≡ source.old) × (lines.reader ≡ start)) }
     {
-        Ok(Lines {
-            source,
-            reader: LineReader::new(alloc)?,
-        })
+        let reader = LineReader::new(alloc)?;
+        Ok(Lines::over(source, reader))
+    }
+
+    /// The same with a reader that was made before the source was at hand, and so with no want of memory here.
+    pub fn over(source: &'a mut S, reader: LineReader) -> Lines<'a, S>
+        requires { reader ≡ start }
+        ensures same_source { result.source.ghost_name ≡ source.entry.ghost_name }
+        ensures unread { (result.source.now ≡ source.old) × (result.reader ≡ start) }
+    {
+        Lines { source, reader }
     }
 
     /// Reads the next line, None at the end of the source. After that, and after a fault, it answers the same

@@ -154,7 +154,7 @@ fn note(addresses: &mut Vec<u32>, line: &Line) -> Result<(), NoMemory>
 
 /// What was read of a transcript, and what is held of its source.
 #[derive(Debug, Drop)]
-pub(crate) struct LineReader {
+pub struct LineReader {
     alloc: Global,
     raw: RawLines,
     section: Section,
@@ -182,7 +182,7 @@ impl Model for LineReader {
 
 impl LineReader {
     /// Nothing is read yet.
-    pub(crate) fn new(alloc: Global) -> Result<LineReader, NoMemory>
+    pub fn new(alloc: Global) -> Result<LineReader, NoMemory>
         ensures { IfOk result (λ r. r ≡ reading.start) }
     {
         Ok(LineReader {
