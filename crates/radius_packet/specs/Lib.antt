@@ -1,3 +1,4 @@
+pub mod Checks
 pub mod Packet
 pub mod Reasons
 pub mod Seals
