@@ -1,4 +1,5 @@
 pub mod Drafts
+pub mod FaultLemmas
 pub mod Packets
 pub mod Reading
 pub mod SealTests

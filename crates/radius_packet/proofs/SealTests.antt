@@ -1,7 +1,7 @@
 -- A seal is found where it stands, and what is tested in place is what the definition says.
-use Rattle.std.proofs.Common.{◌≡◌, ℕ, suc, ◌+◌, ◌-◌, ◌<◌, ◌≤◌, Bool, true, false, cond, List, [], ◌∷◌, ◌++◌, length, get_or, take, drop, map, filter, replicate, Option, Some, None, refl, sym, ap, subst, ◌∙◌, append_assoc, inl, inr, arith}
+use Rattle.std.proofs.Common.{◌≡◌, ℕ, suc, ◌+◌, Bool, true, false, cond, List, [], ◌∷◌, ◌++◌, length, get_or, take, drop, map, filter, replicate, Option, Some, None, refl, sym, ap, ◌∙◌, append_assoc, inl, inr, arith}
 use Rattle.std.specs.Prelude.{◌⊎◌, ◌||◌, nat_eq}
-use Rattle.std.specs.List.{list_any, flat_map}
+use Rattle.std.specs.List.{list_any}
 use Rattle.std.specs.Cmp.Lexicographic.{pointwise}
 use Rattle.std.proofs.lemmas.Bool.{eqb-true}
 use Rattle.std.proofs.lemmas.List.{drop_at, take_at, drop-drop, length-append, length-drop, get_or-drop, map-append}
@@ -12,13 +12,11 @@ use Rattle.hmac_md5.specs.Hmac.{hmac_of}
 use Rattle.hmac_md5.proofs.Lengths.{length-hmac_of}
 use Rattle.wire_core.specs.Numbers.{u16, octets_at}
 use Rattle.wire_core.proofs.NumberLemmas.{length-u16}
-use Rattle.radius_packet.specs.Packet.{AttributeParts, PacketParts, attribute_text, attributes_text, packet_text, IsPacket, attributes_in}
+use Rattle.radius_packet.specs.Packet.{AttributeParts, PacketParts, attribute_text, attributes_text, packet_text, IsPacket}
 use Rattle.radius_packet.specs.Seals.{seal}
 use Rattle.radius_packet.specs.Checks.{is_seal, blanked, seal_value, IsSealRight, verdict, seal_of, seal_place, SealAt}
-use Rattle.radius_packet.specs.declared.checking.Seal.{Seal}
 use Rattle.radius_packet.specs.declared.checking.Seal.TheVariants.{Absent, Right, Wrong}
 use Rattle.radius_packet.proofs.Packets.{drop-packet_text}
-use Rattle.radius_packet.proofs.Reading.{attributes_in-text}
 use Rattle.radius_packet.proofs.Signing.{value_put}
 
 -- ---- which attributes are seals

@@ -1,5 +1,5 @@
 -- The iterator gives the attributes, and the closure is the test.
-use Rattle.std.proofs.Common.{◌∙◌, sym, rules, tests}
+use Rattle.std.proofs.Common.{rules, tests}
 use Rattle.std.proofs.lemmas.Iterator.Consumers.{YieldsList-from_first}
 use Rattle.std.proofs.lemmas.Iterator.Search.{any_from_yields_List}
 use Rattle.radius_packet.specs.Views.{attribute_view}

@@ -1,4 +1,4 @@
-use Rattle.std.proofs.Common.{◌≡◌, ℕ, ◌+◌, List, Some, ap, sym, refl, ◌∙◌, arith}
+use Rattle.std.proofs.Common.{◌≡◌, ◌+◌, List, Some, ap, sym, refl, ◌∙◌, arith}
 use Rattle.radius_packet.specs.Packet.{AttributeParts}
 use Rattle.radius_packet.specs.Checks.{seal_place, SealAt}
 use Rattle.radius_packet.proofs.SealTests.{seal_at, room_at, absent, right_is, is_right}
