@@ -1,4 +1,4 @@
-use Rattle.std.proofs.Common.{◌≡◌, ℕ, length, take, ap, ◌∙◌, arith}
+use Rattle.std.proofs.Common.{ℕ, take, ap, ◌∙◌, arith}
 use Rattle.password_hiding.proofs.BlockLemmas.{padded_is, front_hidden, moved}
 use Rattle.password_hiding.proofs.hide.Goals as goal
 

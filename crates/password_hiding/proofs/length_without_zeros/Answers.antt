@@ -1,4 +1,4 @@
-use Rattle.std.proofs.Common.{◌≡◌, length, ap, sym, ◌∙◌, arith}
+use Rattle.std.proofs.Common.{length, ap, sym, ◌∙◌, arith}
 use Rattle.std.proofs.lemmas.List.{length-take-le}
 use Rattle.password_hiding.proofs.TrimLemmas.{one_less, no_zero}
 use Rattle.password_hiding.proofs.length_without_zeros.Goals as goal

@@ -1,4 +1,4 @@
-use Rattle.std.proofs.Common.{◌≡◌, ◌++◌, length, take, drop}
+use Rattle.std.proofs.Common.{◌≡◌, ◌++◌, take, drop}
 use Rattle.password_hiding.specs.Hiding.{xor_each}
 use Rattle.password_hiding.proofs.blocks.mask_block.Given as goal
 

@@ -1,5 +1,4 @@
 use Rattle.std.proofs.Common.{◌*◌, ◌≡◌, ℕ, List, take, drop, ap, ◌∙◌, refl, arith}
-use Rattle.password_hiding.specs.Hiding.{block}
 use Rattle.password_hiding.proofs.BlockLemmas.{masked, before_next, rest_after, unhide_step, unhides, plain_is}
 use Rattle.password_hiding.proofs.blocks.unhide_blocks.Goals as goal
 

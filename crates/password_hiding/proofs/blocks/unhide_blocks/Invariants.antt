@@ -1,4 +1,4 @@
-use Rattle.std.proofs.Common.{◌≡◌, ◌*◌, ℕ, ◌<◌, length, drop}
+use Rattle.std.proofs.Common.{◌≡◌, ◌*◌, ℕ, ◌<◌, drop}
 use Rattle.password_hiding.specs.Hiding.{block, xor_each, before_block, mask}
 use Rattle.password_hiding.proofs.blocks.unhide_blocks.Given as goal
 
