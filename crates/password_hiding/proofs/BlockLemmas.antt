@@ -1,7 +1,7 @@
 -- Blocks of a list, before and after one of them is written.
-use Rattle.std.proofs.Common.{◌≡◌, ℕ, zero, suc, ◌+◌, ◌-◌, ◌*◌, ◌/◌, ◌%◌, ◌<◌, ◌≤◌, List, [], ◌∷◌, ◌++◌, length, get_or, set, take, drop, refl, sym, ap, ◌∙◌, append_assoc, inl, inr, subst, true, replicate, add-one, arith, take_all}
+use Rattle.std.proofs.Common.{◌≡◌, ℕ, zero, suc, ◌+◌, ◌-◌, ◌*◌, ◌/◌, ◌%◌, ◌<◌, ◌≤◌, List, [], ◌∷◌, ◌++◌, length, get_or, set, take, drop, refl, sym, ap, ◌∙◌, append_assoc, inl, inr, subst, true, replicate, add-one, arith, take_all, leb, eqb, cond}
 use Rattle.std.specs.Prelude.{bit_xor}
-use Rattle.std.proofs.lemmas.Bool.{cases_lt, and_parts, leb-true, eqb-true}
+use Rattle.std.proofs.lemmas.Bool.{cases_lt, and_parts, leb-true, le-leb, eqb-true}
 use Rattle.std.proofs.lemmas.Bool.Decides.{eqb_tells}
 use Rattle.std.proofs.lemmas.List.{take_at, drop_at, drop_more, take_more, set_at, get_or_at, drop-take, take-take, drop-drop, length-take-le, length-drop, length-append, take-append-drop, take-replicate, length-replicate}
 use Rattle.std.proofs.lemmas.Nat.Bits.{same_from_bits, bit_at_xor, bit_at-lt}
@@ -270,6 +270,31 @@ padded_bounds n le = elim (eqb_tells n 0) [
   | inl none ↦ rw none.0 (omega (arith, none.1), omega arith)
   | inr some ↦ rw some.0 (omega arith, omega arith)
 ]
+
+pub padded_size : (n : ℕ) → n ≤ 128 → is_hidden_length (padded_length n) ≡ true
+padded_size n le = elim (eqb_tells n 0) [
+  | inl none ↦ rw none.0 refl
+  | inr some ↦
+      let positive : (n ≡ 0 → ⊥) → 0 < n = λ h. omega (arith, h) in
+      let low : leb 16 ((n + 15) / 16 * 16) ≡ true = le-leb _ _ (omega (arith, positive some.1)) in
+      let high : leb ((n + 15) / 16 * 16) 128 ≡ true = le-leb _ _ (omega arith) in
+      let whole : (n + 15) / 16 * 16 % 16 ≡ 0 = omega arith in
+      rw (some.0, low, high, whole) refl
+]
+
+pub padded_room : (n : ℕ) → n ≤ padded_length n
+padded_room n = elim (eqb_tells n 0) [
+  | inl none ↦ rw none.0 (omega (arith, none.1))
+  | inr some ↦ rw some.0 (omega arith)
+]
+
+pub padded_least : (n m : ℕ) → is_hidden_length m ≡ true → n ≤ m → padded_length n ≤ m
+padded_least n m e le =
+    let s = sized m e in
+    elim (eqb_tells n 0) [
+      | inl none ↦ rw none.0 s.low
+      | inr some ↦ rw some.0 (omega (arith, s.whole))
+    ]
 
 pub padded_is : (password octets : List ℕ) → length password ≤ 128 → octets ≡ password ++ replicate (128 - length password) 0
     → take (padded_length (length password)) octets ≡ padded password
