@@ -173,7 +173,7 @@ past : {A : Type 0} (b : Bool) (x y z : A) → (x ≡ z → ⊥) → cond b x y 
 past true x y z differs e = absurd (differs e)
 past false x y z differs e = e
 
-header_fails : (octets : List ℕ) (r : Result (List AttributeParts) PacketFault) (fault : PacketFault) → with_header octets r ≡ Err fault → r ≡ Err fault
+pub header_fails : (octets : List ℕ) (r : Result (List AttributeParts) PacketFault) (fault : PacketFault) → with_header octets r ≡ Err fault → r ≡ Err fault
 header_fails octets (Ok list) fault e = absurd cc
 header_fails octets (Err other) fault e = cc
 

@@ -146,6 +146,38 @@ breaks_at octets place e =
     let b = breaks (drop 20 octets) 0 20 (BadAttribute place) e in
     record { before = b.before; rest = b.rest; text = b.text; place_is = cc (b.fault_is); broken = b.broken }
 
+pub fault_is : (xs : List ℕ) (place : ℕ) (fault : PacketFault) → read_attributes xs 0 place ≡ Err fault → (n : ℕ) × (fault ≡ BadAttribute n)
+fault_is xs place fault e =
+    let b = breaks xs 0 place fault e in
+    (_, b.fault_is)
+
+ends_broken : (xs : List ℕ) (place : ℕ) → IsBroken xs → read_attributes xs 0 place ≡ Err (BadAttribute place)
+unfolding read_attributes
+ends_broken [] place broken = absurd broken
+ends_broken (code ∷ []) place broken = refl
+ends_broken (code ∷ size ∷ xs) place (inl low) = rw (lt-ltb size 2 low) refl
+ends_broken (code ∷ size ∷ xs) place (inr high) = elim (ltb size 2) as (λ b. cond (b || ltb (length xs + 2) size) (Err (BadAttribute place)) (put_first (record { code = code; value = take (size - 2) xs }) (read_attributes (size ∷ xs) (size - 1) (place + 1))) ≡ Err (BadAttribute place)) [
+  | true ↦ refl
+  | false ↦ rw (lt-ltb (length xs + 2) size high) refl
+]
+
+-- whole attributes are read up to the one that isn't
+reads_up_to : (before : List AttributeParts) (rest : List ℕ) (place : ℕ) → IsBroken rest
+    → read_attributes (attributes_text before ++ rest) 0 place ≡ Err (BadAttribute (place + length (attributes_text before)))
+reads_up_to [] rest place broken = ends_broken rest place broken ∙ ap (λ (n : ℕ). Err (BadAttribute n)) (sym (add-zero place))
+reads_up_to (a ∷ before) rest place broken =
+    let others : List ℕ = attributes_text before ++ rest in
+    let text : attributes_text (a ∷ before) ++ rest ≡ a.code ∷ (length a.value + 2) ∷ (a.value ++ others) = append_assoc (attribute_text a) (attributes_text before) rest in
+    let len : length a.value + 2 - 2 ≡ length a.value = omega arith in
+    let at : place + (length a.value + 2) + length (attributes_text before) ≡ place + length (attributes_text (a ∷ before)) = omega (arith, length-append a.value (attributes_text before)) in
+    ap (λ (xs : List ℕ). read_attributes xs 0 place) text
+    ∙ reads_first a.code (length a.value + 2) (a.value ++ others) place (omega arith) (omega (arith, length-append a.value others))
+    ∙ rw (len, drop_at a.value others (length a.value) refl, reads_up_to before rest (place + (length a.value + 2)) broken) (ap (λ (n : ℕ). Err (BadAttribute n)) at)
+
+pub breaks_back : (octets : List ℕ) (place : ℕ) → BreaksAt octets place → read_attributes (drop 20 octets) 0 20 ≡ Err (BadAttribute place)
+breaks_back octets place b =
+    ap (λ (xs : List ℕ). read_attributes xs 0 20) b.text ∙ reads_up_to b.before b.rest 20 b.broken ∙ ap (λ (n : ℕ). Err (BadAttribute n)) (sym b.place_is)
+
 -- ---- values
 
 pub values_fit : (list : List AttributeParts) → ((i : ℕ) → get_or (attributes_text list) i 0 < 256) → AllByRecursion (λ a. length a.value ≤ 253) list

@@ -32,12 +32,12 @@ length_put r e =
 seal_text : (h : List ℕ) (list : List AttributeParts) → length h ≡ 16 → attributes_text (seal h ∷ list) ≡ 80 ∷ 18 ∷ (h ++ attributes_text list)
 seal_text h list e = rw e refl
 
--- a value of sixteen octets in place of another one
-value_put : (front zeros h rest : List ℕ) → length front ≡ 20 → length zeros ≡ 16
-    → take 22 (front ++ (80 ∷ 18 ∷ (zeros ++ rest))) ++ h ++ drop 38 (front ++ (80 ∷ 18 ∷ (zeros ++ rest))) ≡ front ++ (80 ∷ 18 ∷ (h ++ rest))
-value_put front zeros h rest ef ez =
+-- a value of sixteen octets in place of another one, in an attribute that begins at a place
+pub value_put : (front zeros h rest : List ℕ) (place : ℕ) → length front ≡ place → length zeros ≡ 16
+    → take (place + 2) (front ++ (80 ∷ 18 ∷ (zeros ++ rest))) ++ h ++ drop (place + 18) (front ++ (80 ∷ 18 ∷ (zeros ++ rest))) ≡ front ++ (80 ∷ 18 ∷ (h ++ rest))
+value_put front zeros h rest place ef ez =
     let tail : List ℕ = 80 ∷ 18 ∷ (zeros ++ rest) in
-    rw (take_past front tail 20 2 ef, drop_past front tail 20 18 ef, drop_at zeros rest 16 ez)
+    rw (take_past front tail place 2 ef, drop_past front tail place 18 ef, drop_at zeros rest 16 ez)
     (append_assoc (front ++ 80 ∷ 18 ∷ []) h rest ∙ append_assoc front (80 ∷ 18 ∷ []) (h ++ rest))
 
 -- the header with the request's authenticator
@@ -57,7 +57,7 @@ seal_put request h code id list e eh =
     let n : ℕ = 20 + length (attributes_text (seal (replicate 16 0) ∷ list)) in
     let m : ℕ = 20 + length (attributes_text (seal h ∷ list)) in
     let same : n ≡ m = omega (arith, seal_size (replicate 16 0) list refl, seal_size h list eh) in
-    value_put (front_of code id n request) (replicate 16 0) h (attributes_text list) (front_length code id n request e) refl
+    value_put (front_of code id n request) (replicate 16 0) h (attributes_text list) 20 (front_length code id n request e) refl
     ∙ ap (λ (k : ℕ). front_of code id k request ++ (80 ∷ 18 ∷ (h ++ attributes_text list))) same
     ∙ ap (λ (xs : List ℕ). front_of code id m request ++ xs) (sym (seal_text h list eh))
 

@@ -1,3 +1,5 @@
+pub mod Checks
+pub mod Faults
 pub mod Packet
 pub mod Reasons
 pub mod Seals

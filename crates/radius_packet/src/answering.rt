@@ -7,14 +7,12 @@ ghost use Rattle.hmac_md5.specs.Hmac.{hmac_of};
 ghost use Rattle.radius_packet.specs.Packet.{IsPacket};
 ghost use Rattle.radius_packet.specs.Seals.{Signed, IsDraft, draft_in, sealed_attributes, reply_text, has_room};
 
-use crate::sizes::{HEADER, MOST};
+use crate::sizes::{HEADER, MOST, SEAL};
 use hmac_md5::hmac;
 use md5::{Digest, Md5};
 use std::alloc::Global;
 use std::marker::Model;
 use wire_core::{NoMemory, Octets, put_u16};
-
-const SEAL: u8 = 80;
 
 /// The value has over 253 octets, or the packet would pass 4096.
 #[derive(Clone, Copy, Debug, PartialEq, Eq)]

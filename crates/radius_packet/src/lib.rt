@@ -3,6 +3,7 @@
 
 mod answering;
 mod attribute_list;
+mod checking;
 mod fault;
 pub mod laws;
 mod reasons;
@@ -11,6 +12,7 @@ mod sizes;
 
 pub use answering::{Full, Reply};
 pub use attribute_list::{Attribute, Attributes};
+pub use checking::Seal;
 pub use fault::PacketFault;
 pub use reasons::{Reason, Via};
 pub use received::Packet;

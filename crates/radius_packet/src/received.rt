@@ -1,8 +1,9 @@
 //! A packet that was received.
 
-ghost use Rattle.std.specs.Prelude.{◌≡◌, ◌≤◌, ℕ, IfOk, Ok, Err, length, drop};
+ghost use Rattle.std.specs.Prelude.{◌≡◌, ◌≤◌, ◌↔◌, ℕ, IfOk, Ok, Err, length, drop};
 ghost use Rattle.std.specs.Result.{result_err};
 ghost use Rattle.radius_packet.specs.Packet.{PacketParts, IsPacket, attributes_text, packet_text, whole, BreaksAt, read_packet, read_attributes};
+ghost use Rattle.radius_packet.specs.Faults.{IsShort, HasBadLength, HasBadAttribute};
 
 use crate::attribute_list::Attributes;
 use crate::fault::PacketFault;
@@ -53,6 +54,10 @@ impl<'a> Packet<'a> {
         // Which fault it is, and at which place.
         ensures place { (place : ℕ) → result ≡ Err (PacketFault.BadAttribute place) → BreaksAt (whole octets.now) place }
         ensures exact { result ≡ read_packet octets.now }
+        // Exactly when each fault comes.
+        ensures short { (result ≡ Err PacketFault.Short) ↔ IsShort octets.now }
+        ensures bad_length { (result ≡ Err PacketFault.BadLength) ↔ HasBadLength octets.now }
+        ensures bad_attribute { (place : ℕ) → (result ≡ Err (PacketFault.BadAttribute place)) ↔ HasBadAttribute octets.now place }
     {
         Packet::read(octets)
     }

@@ -5,3 +5,6 @@ pub const HEADER: usize = 20;
 
 /// The longest packet.
 pub const MOST: usize = 4096;
+
+/// The type of a Message-Authenticator (RFC 3579, section 3.2).
+pub const SEAL: u8 = 80;

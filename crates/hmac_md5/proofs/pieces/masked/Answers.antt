@@ -1,6 +1,6 @@
 use Rattle.std.proofs.Common.{[], arith, ◌≡◌, ℕ, ◌+◌, ◌<◌, List, ◌∷◌, ◌++◌, length, get_or, set, take, drop, map, bit_xor, append_assoc, ◌∙◌, sym}
 use Rattle.std.proofs.lemmas.List.{drop_more, map_more, set_at, get_or_at, length-map, length-take-le}
-use Rattle.hmac_md5.proofs.masked.Goals as goal
+use Rattle.hmac_md5.proofs.pieces.masked.Goals as goal
 
 -- one more element mapped in place
 one_more : (f : ℕ → ℕ) (xs ys : List ℕ) (i : ℕ) → i < length xs → ys ≡ map f (take i xs) ++ drop i xs

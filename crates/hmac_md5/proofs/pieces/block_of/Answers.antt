@@ -1,7 +1,7 @@
 use Rattle.std.proofs.Common.{◌≡◌, ℕ, true, leb, length, refl}
 use Rattle.std.proofs.lemmas.Bool.{le-leb}
 use Rattle.std.proofs.lemmas.List.{drop-replicate}
-use Rattle.hmac_md5.proofs.block_of.Goals as goal
+use Rattle.hmac_md5.proofs.pieces.block_of.Goals as goal
 
 pub returns-then-key-le-BLOCK : goal.returns-then-key-le-BLOCK
 returns-then-key-le-BLOCK c =

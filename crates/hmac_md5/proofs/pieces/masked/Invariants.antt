@@ -1,5 +1,5 @@
 use Rattle.std.proofs.Common.{◌≡◌, ◌++◌, map, take, drop, bit_xor}
-use Rattle.hmac_md5.proofs.masked.Given as goal
+use Rattle.hmac_md5.proofs.pieces.masked.Given as goal
 
 -- the octets so far are masked, and the others as they were
 abbrev pub invariant-loop-x : goal.invariant-loop-x
