@@ -1,12 +1,13 @@
 //! Appending to octets that have room.
 
-ghost use Rattle.std.specs.Prelude.{◌≡◌, ◌+◌, ◌<◌, ◌≤◌, ◌^◌, ◌++◌, length, replicate, vec_len, vec_capacity};
+ghost use Rattle.std.specs.Prelude.{◌≡◌, ◌+◌, ◌<◌, ◌≤◌, ◌^◌, ◌++◌, length, take, drop, replicate, vec_len, vec_capacity};
 ghost use Rattle.wire_core.specs.Numbers.{u24, u32};
 ghost use Rattle.diameter_avp.specs.Avps.{avp_length, avp_text, vendor_text};
 ghost use Rattle.diameter_avp.specs.View.{avp_view};
 
 use crate::avp::Avp;
 use crate::reading::padded;
+use wire_core::put_u24;
 
 /// Appends octets for which there is room.
 fn append(octets: &mut Vec<u8>, piece: &[u8])
@@ -71,4 +72,13 @@ pub(crate) fn append_avp(octets: &mut Vec<u8>, avp: &Avp<'_>, counted: u32)
     append(octets, avp.body);
     let length = counted as usize;
     append_zeros(octets, padded(length) - length);
+}
+
+/// Writes the number, which is below 2^24, over the three octets at `place`.
+pub(crate) fn overwrite_u24(octets: &mut Vec<u8>, place: usize, value: u32)
+    requires inside { place + 3 ≤ vec_len octets.old }
+    requires small { value < 2 ^ 24 }
+    ensures { octets.new.items ≡ take place octets.old.items ++ u24 value ++ drop (place + 3) octets.old.items }
+{
+    put_u24(octets.as_mut_slice(), place, value);
 }

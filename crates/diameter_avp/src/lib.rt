@@ -31,7 +31,7 @@ pub use avp::Avp;
 pub use fault::AvpFault;
 pub use items::Avps;
 pub use reading::{avps, check_avps};
-pub use writer::{AvpWriter, WriteFault};
+pub use writer::{AvpWriter, Group, WriteFault};
 
 #[cfg(test)]
 mod tests;

@@ -1,5 +1,6 @@
-ghost use Rattle.std.specs.Prelude.{◌≡◌, fold};
-ghost use Rattle.diameter_avp.specs.Avps.{avps_fault, readable_avps, unless_fault};
+ghost use Rattle.std.specs.Prelude.{◌≡◌, [], ◌∷◌, None, true, fold, OnOk};
+ghost use Rattle.diameter_avp.specs.Avps.{avps_fault, avps_text, made, readable_avps, unless_fault};
+ghost use Rattle.diameter_avp.specs.Writer.{with_avp};
 
 use super::*;
 use std::test::Fail;
@@ -9,6 +10,31 @@ const AVPS: &[u8] = b"\x00\x00\x01\x07\x40\x00\x00\x19agent.example;7;0\x00\x00\
     \x00\x00\x01\x02\x40\x00\x00\x0c\x00\x00\x00\x01\
     \x00\x00\x01\x0c\x40\x00\x00\x0c\x00\x00\x07\xd1\
     \x00\x00\x00\x01\x80\x00\x00\x0f\x00\x00\x00\x09abc\x00";
+
+// A Failed-AVP (RFC 6733, section 7.5) that holds a Vendor-Specific-Application-Id (section 6.11).
+const GROUPS: &[u8] = b"\x00\x00\x01\x17\x40\x00\x00\x28\
+    \x00\x00\x01\x04\x40\x00\x00\x20\
+    \x00\x00\x01\x0a\x40\x00\x00\x0c\x00\x00\x28\xaf\
+    \x00\x00\x01\x02\x40\x00\x00\x0c\x01\x00\x00\x16";
+
+// A group inside a group, as callers write it.
+fn put_failed_application(
+    writer: &mut AvpWriter,
+    vendor: &[u8],
+    application: &[u8],
+) -> Result<(), WriteFault>
+    ensures { OnOk result (writer.new ≡ with_avp writer.old (made 279 None true (avps_text (
+        made 260 None true (avps_text (
+        made 266 None true vendor.now ∷ made 258 None true application.now ∷ [])) ∷ [])))) }
+{
+    let failed = writer.begin_group(279, true)?;
+    let inner = writer.begin_group(260, true)?;
+    writer.put(266, None, true, vendor)?;
+    writer.put(258, None, true, application)?;
+    writer.end_group(inner);
+    writer.end_group(failed);
+    Ok(())
+}
 
 // The code of the last AVP, or the list's fault: a loop over a list as callers write it.
 fn last_code(octets: &[u8]) -> Result<u32, AvpFault>
@@ -49,8 +75,13 @@ fn reads_each_avp(rt: HostRuntime) {
 
 #[test]
 fn names_the_first_fault(rt: HostRuntime) {
-    let cases: [(&[u8], Result<(), AvpFault>); 9] = [
+    let cases: [(&[u8], Result<(), AvpFault>); 11] = [
         (b"", Ok(())),
+        (
+            b"\x00\x00\x00\x01\x40\x00\x00\x07",
+            Err(AvpFault::BadLength { place: 0 }),
+        ),
+        (b"\x00\x00\x00", Err(AvpFault::Short { place: 0 })),
         (AVPS, Ok(())),
         (&AVPS[..67], Err(AvpFault::BadLength { place: 52 })),
         (&AVPS[..59], Err(AvpFault::Short { place: 52 })),
@@ -92,11 +123,29 @@ fn writes_each_avp(rt: HostRuntime) -> Result<(), Fail> {
 }
 
 #[test]
+fn writes_groups(rt: HostRuntime) -> Result<(), Fail> {
+    let mut writer = AvpWriter::new(rt.alloc(), b"")?;
+    put_failed_application(&mut writer, b"\x00\x00\x28\xaf", b"\x01\x00\x00\x16")?;
+    assert_eq!(rt; writer.finish().as_slice(), GROUPS);
+    let mut items = avps(GROUPS);
+    match items.next() {
+        Some(Ok(failed)) => assert_eq!(rt; last_code(failed.body), Ok(260)),
+        _ => assert!(rt; false),
+    }
+    assert!(rt; items.next().is_none());
+    Ok(())
+}
+
+#[test]
 fn fills_a_list(rt: HostRuntime) -> Result<(), Fail> {
     let body = vec![in rt.alloc(); 7; 65_508]?;
     let mut writer = AvpWriter::new(rt.alloc(), b"")?;
     writer.put(1, None, true, &body)?;
     assert_eq!(rt; writer.put(1, None, true, b""), Err(WriteFault::TooLong));
+    match writer.begin_group(279, true) {
+        Ok(_) => assert!(rt; false),
+        Err(fault) => assert_eq!(rt; fault, WriteFault::TooLong),
+    }
     assert_eq!(rt; writer.finish().len(), 65_516);
     Ok(())
 }

@@ -2,10 +2,10 @@
 
 ghost use Rattle.std.specs.Prelude.{◌≡◌, ◌+◌, ◌<◌, ◌≤◌, ◌^◌, ◌↔◌, [], ◌∷◌, ◌++◌, length, IfOk, OnOk, OnErr};
 ghost use Rattle.diameter_avp.specs.Avps.{IsAvps, avps_text, made};
-ghost use Rattle.diameter_avp.specs.Writer.{with_avp};
+ghost use Rattle.diameter_avp.specs.Writer.{GroupParts, IsOpen, once_ended, with_avp};
 ghost use Rattle.diameter_avp.specs.declared.writer.WriteFault.TheVariants.{NoMemory};
 
-use crate::append::append_avp;
+use crate::append::{append_avp, overwrite_u24};
 use crate::making::{length_of, make_avp};
 use crate::reading::padded;
 use std::alloc::{AllocError, Global};
@@ -33,7 +33,25 @@ impl From<AllocError> for WriteFault {
     }
 }
 
+/// A group that was begun in a list and isn't ended yet. Contracts see how many octets of the list
+/// stand before it.
+#[derive(Debug, Drop)]
+pub struct Group {
+    place: usize,
+}
+
+impl Model for Group {
+    ghost use Rattle.std.specs.Prelude.{ℕ};
+
+    ghost Value = { ℕ };
+
+    ghost view = { λ g. g.place };
+}
+
 /// A list of AVPs in the making, behind octets that it began with. Contracts see both.
+///
+/// A group that is open is an AVP without a body, and what is put after it will be its members:
+/// `end_group` takes them into its body. So a group inside a group is ended before the outer one.
 #[derive(Drop)]
 pub struct AvpWriter {
     octets: Vec<u8>,
@@ -84,6 +102,31 @@ impl AvpWriter {
         self.octets.reserve(size)?;
         append_avp(&mut self.octets, &avp, length as u32);
         Ok(())
+    }
+
+    /// Begins a group (RFC 6733, section 4.4), without a vendor and without the P flag. What is put
+    /// until it is ended are its members.
+    pub fn begin_group(&mut self, code: u32, mandatory: bool) -> Result<Group, WriteFault>
+        ensures ok { OnOk result (self.new ≡ with_avp self.old (made code None mandatory [])) }
+        ensures place { IfOk result (λ group. group ≡ length (avps_text self.old.list)) }
+        ensures too_long { (result ≡ Err WriteFault.TooLong)
+            ↔ (65516 < length (avps_text (with_avp self.old (made code None mandatory [])).list)) }
+        ensures err { OnErr result (self.new ≡ self.old) }
+    {
+        let place = self.octets.len() - self.front;
+        self.put(code, None, mandatory, &[])?;
+        Ok(Group { place })
+    }
+
+    /// Ends the innermost group: all that was put since it began becomes its body.
+    pub fn end_group(&mut self, group: Group)
+        requires { (g : GroupParts) × IsOpen self.old.list group g }
+        ensures { (g : GroupParts) → IsOpen self.old.list group g
+            → self.new ≡ record self.old { list = once_ended g } }
+    {
+        let place = self.front + group.place;
+        let length = (self.octets.len() - place) as u32;
+        overwrite_u24(&mut self.octets, place + 5, length);
     }
 
     /// The octets that the list began with, and then the list.

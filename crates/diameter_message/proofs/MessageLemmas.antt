@@ -110,7 +110,7 @@ IsMessage-from_ok octets m are e =
 
 -- ---- a message is read as it
 
-read_message-ok : (octets : List ℕ) → 20 ≤ length octets → get_or octets 0 0 ≡ 1 → length_of octets ≡ length octets → length_of octets % 4 ≡ 0 → read_message octets ≡ Ok (parts_of octets)
+pub read_message-ok : (octets : List ℕ) → 20 ≤ length octets → get_or octets 0 0 ≡ 1 → length_of octets ≡ length octets → length_of octets % 4 ≡ 0 → read_message octets ≡ Ok (parts_of octets)
 unfolding read_message
 read_message-ok octets long version counts words =
     let long' = le-ltb _ _ long in

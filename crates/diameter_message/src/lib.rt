@@ -7,14 +7,21 @@
 #![tactic(auto)]
 
 mod fault;
+mod framer;
 mod header;
+pub mod laws;
 mod message;
+mod next;
 mod writer;
 
 pub use fault::{FrameFault, MessageFault};
+pub use framer::Framer;
 pub use header::Header;
 pub use message::{Message, parse};
+pub use next::Next;
 pub use writer::MessageWriter;
 
 #[cfg(test)]
 mod tests;
+#[cfg(test)]
+mod vectors;

@@ -3,53 +3,15 @@ ghost use Rattle.diameter_avp.specs.Avps.{avps_text, made};
 ghost use Rattle.diameter_message.specs.Message.{message_text};
 
 use super::*;
+use crate::vectors::{
+    ABORT, ABORT_ANSWER, ANSWER, CAPABILITIES, CAPABILITIES_ANSWER, CREDIT, CREDIT_REFUSED, LOGIN,
+    REQUEST, TERMINATION, UNKNOWN_MANDATORY, WATCHDOG,
+};
 use diameter_avp::{WriteFault, avps};
 use std::alloc::Global;
+use std::process::Abort;
 use std::test::Fail;
-use wire_core::Octets;
-
-// An AA-Request.
-const REQUEST: &[u8] =
-    b"\x01\x00\x00\xac\xc0\x00\x01\x09\x00\x00\x00\x01\x00\x00\x00\x00\x00p\x00\x00\
-    \x00\x00\x01\x07@\x00\x00\x19agent.example;7;0\x00\x00\x00\
-    \x00\x00\x01\x02@\x00\x00\x0c\x00\x00\x00\x01\
-    \x00\x00\x01\x08@\x00\x00\x14nas1.example\
-    \x00\x00\x01(@\x00\x00\x0fexample\x00\
-    \x00\x00\x01\x1b@\x00\x00\x0fexample\x00\
-    \x00\x00\x01\x12@\x00\x00\x0c\x00\x00\x00\x02\
-    \x00\x00\x01\x98@\x00\x00\x0c\x00\x00\x00\x01\
-    \x00\x00\x00\x01@\x00\x00\x0cnemo\
-    \x00\x00\x00 @\x00\x00\x0cnas1\
-    \x00\x00\x00\x05@\x00\x00\x0c\x00\x00\x00\x03";
-
-// An AA-Answer.
-const ANSWER: &[u8] = b"\x01\x00\x00x@\x00\x01\x09\x00\x00\x00\x01\x00\x00\x00\x00\x00p\x00\x00\
-    \x00\x00\x01\x07@\x00\x00\x19agent.example;7;0\x00\x00\x00\
-    \x00\x00\x01\x02@\x00\x00\x0c\x00\x00\x00\x01\
-    \x00\x00\x01\x12@\x00\x00\x0c\x00\x00\x00\x03\
-    \x00\x00\x01\x0c@\x00\x00\x0c\x00\x00\x07\xd1\
-    \x00\x00\x01\x08@\x00\x00\x14home.example\
-    \x00\x00\x01(@\x00\x00\x0fexample\x00";
-
-// A Capabilities-Exchange-Request.
-const CAPABILITIES: &[u8] =
-    b"\x01\x00\x00\x98\x80\x00\x01\x01\x00\x00\x00\x00\x80\x00\x00\x00\x00p\x00\x00\
-    \x00\x00\x01\x08@\x00\x00\x15agent.example\x00\x00\x00\
-    \x00\x00\x01(@\x00\x00\x0fexample\x00\
-    \x00\x00\x01\x01@\x00\x00\x0e\x00\x01\xc0\x00\x02\x01\x00\x00\
-    \x00\x00\x01\x0a@\x00\x00\x0c\x00\x00\x00\x00\
-    \x00\x00\x01\x0d\x00\x00\x00\x10rd-agent\
-    \x00\x00\x01\x16@\x00\x00\x0c\x00\x00\x00\x07\
-    \x00\x00\x01\x02@\x00\x00\x0c\x00\x00\x00\x01\
-    \x00\x00\x01\x02@\x00\x00\x0c\x00\x00\x00\x05\
-    \x00\x00\x01\x03@\x00\x00\x0c\x00\x00\x00\x03";
-
-// A Device-Watchdog-Request.
-const WATCHDOG: &[u8] =
-    b"\x01\x00\x00H\x80\x00\x01\x18\x00\x00\x00\x00\x80\x00\x00\x00\x00p\x00\x00\
-    \x00\x00\x01\x08@\x00\x00\x15agent.example\x00\x00\x00\
-    \x00\x00\x01(@\x00\x00\x0fexample\x00\
-    \x00\x00\x01\x16@\x00\x00\x0c\x00\x00\x00\x07";
+use wire_core::{NoMemory, Octets};
 
 // A message written through the writer of its AVPs, as callers write it.
 fn watchdog(
@@ -68,6 +30,46 @@ fn watchdog(
     writer.avps().put(296, None, true, realm)?;
     writer.avps().put(278, None, true, state)?;
     Ok(writer.finish())
+}
+
+// A message written anew from its parts, unless it has a fault.
+fn rewritten(alloc: Global, octets: &[u8]) -> Result<Option<Octets>, WriteFault> {
+    let Ok(message) = parse(octets) else {
+        return Ok(None);
+    };
+    let mut writer = MessageWriter::new(alloc, message.header).map_err(|_| WriteFault::NoMemory)?;
+    for item in avps(message.avps) {
+        let Ok(avp) = item else {
+            return Ok(None);
+        };
+        writer.put(avp.code, avp.vendor, avp.mandatory, avp.body)?;
+    }
+    Ok(Some(writer.finish()))
+}
+
+#[test]
+fn writes_what_it_reads(rt: HostRuntime) -> Result<(), Fail> {
+    let messages = [
+        LOGIN,
+        REQUEST,
+        ANSWER,
+        UNKNOWN_MANDATORY,
+        TERMINATION,
+        CAPABILITIES,
+        CAPABILITIES_ANSWER,
+        WATCHDOG,
+        ABORT,
+        ABORT_ANSWER,
+        CREDIT,
+        CREDIT_REFUSED,
+    ];
+    for octets in messages {
+        match rewritten(rt.alloc(), octets)? {
+            Some(written) => assert_eq!(rt; written.as_slice(), octets),
+            None => assert!(rt; false),
+        }
+    }
+    Ok(())
 }
 
 #[test]
@@ -196,4 +198,81 @@ fn reads_a_flag_that_is_clear(rt: HostRuntime) {
         }
         Err(fault) => assert!(rt; false, "{fault}"),
     }
+}
+
+// Gives a framer a piece, and compares the messages that come of it with those that are awaited,
+// from a place on. The answer is the place of the next one.
+fn feed_and_compare(
+    rt: &impl Abort,
+    framer: &mut Framer,
+    piece: &[u8],
+    awaited: &[&[u8]],
+    from: usize,
+) -> Result<usize, NoMemory> {
+    framer.feed(piece)?;
+    let mut next = from;
+    for wanted in awaited.iter().skip(from) {
+        match framer.next_message()? {
+            Next::Message(message) => assert_eq!(rt; message.as_slice(), *wanted),
+            Next::Wait => return Ok(next),
+            Next::Fault(fault) => assert!(rt; false, "{fault}"),
+        }
+        next = next.saturating_add(1);
+    }
+    Ok(next)
+}
+
+#[test]
+fn cuts_a_stream_in_any_pieces(rt: HostRuntime) -> Result<(), Fail> {
+    let messages = [CREDIT, REQUEST, WATCHDOG, CREDIT, ANSWER];
+    let stream = messages.concat(rt.alloc())?;
+    for size in [1, 3, 20, 64, 172, 404] {
+        let mut framer = Framer::new(rt.alloc());
+        let mut next = 0;
+        for piece in stream.chunks(size) {
+            next = feed_and_compare(&rt, &mut framer, piece, &messages, next)?;
+        }
+        assert_eq!(rt; next, 5);
+        assert_eq!(rt; framer.next_message()?, Next::Wait);
+    }
+    Ok(())
+}
+
+#[test]
+fn waits_and_shows_faults(rt: HostRuntime) -> Result<(), Fail> {
+    let cases: [(&[u8], Next); 9] = [
+        (b"", Next::Wait),
+        (b"\x01\x00\x00\x14", Next::Wait),
+        (b"\x01\x00\x00", Next::Wait),
+        (b"\x01\x01\x00\x00", Next::Wait),
+        (b"\x02", Next::Fault(FrameFault::BadVersion)),
+        (b"\x01\x00\x00\x15", Next::Fault(FrameFault::BadLength)),
+        (b"\x01\x00\x00\x10", Next::Fault(FrameFault::BadLength)),
+        (b"\x01\x01\x00\x01", Next::Fault(FrameFault::BadLength)),
+        (b"\x01\x01\x00\x04", Next::Fault(FrameFault::TooLong)),
+    ];
+    for (octets, wanted) in cases {
+        let mut framer = Framer::new(rt.alloc());
+        framer.feed(octets)?;
+        assert_eq!(rt; framer.next_message()?, wanted);
+        framer.feed(&CREDIT[4..])?;
+        if wanted != Next::Wait {
+            assert_eq!(rt; framer.next_message()?, wanted);
+        }
+    }
+    Ok(())
+}
+
+#[test]
+fn ends_a_message_with_a_later_piece(rt: HostRuntime) -> Result<(), Fail> {
+    let mut framer = Framer::new(rt.alloc());
+    framer.feed(b"\x01\x00\x00\x14")?;
+    assert_eq!(rt; framer.next_message()?, Next::Wait);
+    framer.feed(&CREDIT[4..])?;
+    match framer.next_message()? {
+        Next::Message(message) => assert_eq!(rt; message.as_slice(), CREDIT),
+        _ => assert!(rt; false),
+    }
+    assert_eq!(rt; framer.next_message()?, Next::Wait);
+    Ok(())
 }
