@@ -79,6 +79,14 @@ rows =
 unfoldable pub row_of : ℕ → Option Row
 row_of code = find (λ r. r.code == code) rows
 
+-- the row of an AVP's code
+unfoldable pub row_of_avp : ℕ → Option Row
+row_of_avp code = find (λ r. r.avp == code) rows
+
 -- a row stands under its type, and its AVP has the same number
 abbrev pub RowsKeepNumbers : Type 0
 RowsKeepNumbers = (code : ℕ) (r : Row) → row_of code ≡ Some r → (r.code ≡ code) × (r.avp ≡ code)
+
+-- an AVP's row is that of the attribute of the same number
+abbrev pub RowsMeet : Type 0
+RowsMeet = (code : ℕ) → row_of_avp code ≡ row_of code

@@ -1,4 +1,4 @@
-//! What a value of RADIUS becomes in Diameter.
+//! What a value of RADIUS becomes in Diameter, and the other way.
 
 ghost use Rattle.std.specs.Prelude.{◌≡◌, length};
 ghost use Rattle.std.specs.Str.{is_utf8};
@@ -11,6 +11,9 @@ use wire_core::{get_u32, put_u32};
 
 /// From 1900, where Diameter counts from, to 1970, in seconds (RFC 6733, section 4.3.1).
 const SECONDS_TO_1970: u32 = 2_208_988_800;
+
+/// How many octets the value of a RADIUS attribute has at most (RFC 2865, section 5).
+const LONGEST_VALUE: usize = 253;
 
 /// Why a value isn't translated.
 #[derive(Clone, Copy, Debug, PartialEq, Eq, Error)]
@@ -77,6 +80,16 @@ fn is_of_kind(kind: Kind, value: &[u8]) -> bool
     }
 }
 
+/// What is wrong with a value that isn't of this kind.
+fn kind_fault(kind: Kind) -> RowFault
+    ensures { result ≡ images.kind_fault kind }
+{
+    match kind {
+        Kind::Text => RowFault::BadText,
+        _ => RowFault::BadSize,
+    }
+}
+
 /// Seconds from 1970 as seconds from 1900.
 fn later(value: &[u8]) -> [u8; 4]
     requires { length value.now ≡ 4 }
@@ -91,20 +104,49 @@ fn later(value: &[u8]) -> [u8; 4]
     octets
 }
 
+/// Seconds from 1900 as seconds from 1970.
+fn earlier(body: &[u8]) -> [u8; 4]
+    requires { length body.now ≡ 4 }
+    ensures { result ≡ images.radius_value Kind.Time body.now }
+{
+    let mut octets = [0; 4];
+    put_u32(
+        &mut octets,
+        0,
+        get_u32(body, 0).wrapping_sub(SECONDS_TO_1970),
+    );
+    octets
+}
+
 /// The data of the AVP that an attribute with this value becomes.
 #[tactic(auto, unfolding(crate::specs::Images::forward_image))]
 pub fn forward<'a>(row: &Row, value: &'a [u8]) -> Result<Image<'a>, RowFault>
     ensures { result ≡ images.forward_image row.now value.now }
 {
     if !is_of_kind(row.kind, value) {
-        return Err(match row.kind {
-            Kind::Text => RowFault::BadText,
-            _ => RowFault::BadSize,
-        });
+        return Err(kind_fault(row.kind));
     }
     let held = match row.kind {
         Kind::Time => Held::Made(later(value)),
         _ => Held::Borrowed(value),
+    };
+    Ok(Image { held })
+}
+
+/// The value of the attribute that an AVP with this data becomes.
+#[tactic(auto, unfolding(crate::specs::Images::backward_image))]
+pub fn backward<'a>(row: &Row, body: &'a [u8]) -> Result<Image<'a>, RowFault>
+    ensures { result ≡ images.backward_image row.now body.now }
+{
+    if body.len() > LONGEST_VALUE {
+        return Err(RowFault::TooLong);
+    }
+    if !is_of_kind(row.kind, body) {
+        return Err(kind_fault(row.kind));
+    }
+    let held = match row.kind {
+        Kind::Time => Held::Made(earlier(body)),
+        _ => Held::Borrowed(body),
     };
     Ok(Image { held })
 }

@@ -1,6 +1,7 @@
 //! The rows of the attributes that are copied one by one.
 
 ghost use Rattle.std.specs.Prelude.{◌≡◌};
+ghost use Rattle.attribute_table.specs.Rows as table;
 ghost use Rattle.attribute_table.specs.Rows.{row_of};
 
 /// What a value is.
@@ -124,4 +125,12 @@ pub fn row_of_type(code: u8) -> Option<Row>
     ensures { result ≡ row_of code }
 {
     ROWS.iter().find(|row| row.code == code).copied()
+}
+
+/// The row of the AVPs with a code, the V flag clear.
+#[tactic(auto, unfolding(crate::specs::Rows::row_of_avp, crate::specs::Rows::rows))]
+pub fn row_of_avp(code: u32) -> Option<Row>
+    ensures { result ≡ table.row_of_avp code }
+{
+    ROWS.iter().find(|row| row.avp == code).copied()
 }

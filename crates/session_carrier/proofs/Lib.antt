@@ -1,1 +1,2 @@
+pub mod CarrierLemmas
 pub mod Sessions

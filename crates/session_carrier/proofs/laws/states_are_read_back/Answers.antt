@@ -1,0 +1,5 @@
+use Rattle.session_carrier.proofs.CarrierLemmas as lemmas
+use Rattle.session_carrier.proofs.laws.states_are_read_back.Goals as goal
+
+pub returns : goal.returns
+returns c = lemmas.states_are_read_back
