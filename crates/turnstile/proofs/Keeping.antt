@@ -1,5 +1,5 @@
 -- Each step keeps the rule of the table.
-use Rattle.std.proofs.Common.{◌≡◌, ◌≢◌, ◌⊎◌, ℕ, zero, suc, ◌+◌, ◌%◌, ◌^◌, ◌<◌, ◌≤◌, List, [], ◌∷◌, ◌++◌, length, set, slice_index, Option, Some, None, refl, sym, ap, ◌∙◌, subst, inl, inr, ⊎_elim, arith, append-nil, length-append}
+use Rattle.std.proofs.Common.{◌≡◌, ◌≢◌, ℕ, zero, suc, ◌+◌, ◌%◌, ◌^◌, ◌<◌, ◌≤◌, List, [], ◌∷◌, ◌++◌, length, set, slice_index, Option, Some, refl, sym, ap, ◌∙◌, subst, ⊎_elim, arith, append-nil, length-append}
 use Rattle.std.proofs.Math.Nat.{mod-add-mod}
 use Rattle.std.proofs.lemmas.List.{set_comm}
 use mathlib.Core.Logic.{dite}
@@ -14,8 +14,8 @@ use Rattle.turnstile.specs.declared.view.View.{View}
 use Rattle.turnstile.specs.declared.view.Stage.{Stage}
 use Rattle.turnstile.specs.declared.view.Stage.TheVariants.{Idle, Waits, Serves}
 use Rattle.turnstile.specs.Turns.{Turn, StartsWith, longer, In, Distinct, least, greatest, without, of, plain, Numbered}
-use Rattle.turnstile.specs.Knowing.{Carries, Stands, fresh, left_of, right_of}
-use Rattle.turnstile.specs.Order.{tickets, HasTicket, total, waiting, holding, idle, AtStage, Holds, Told, Fits, Apart, Longest, Follows, InSlot, Kept, Due, looked, finished, drew, after, raised, both, spent, Agree, learned}
+use Rattle.turnstile.specs.Knowing.{Stands, fresh, left_of, right_of}
+use Rattle.turnstile.specs.Order.{tickets, HasTicket, waiting, holding, idle, AtStage, Holds, Told, Fits, Apart, Longest, Follows, InSlot, Kept, looked, finished, drew, after, raised, both, spent, Agree, learned}
 use Rattle.turnstile.proofs.Lists.{total_set, total_end, total_two, total_below, each_set, at_end, inside, pairs_set, pairs_end, least-in, greatest-in, in-without, without-distinct, length-without, in-append, in-left, in-right, distinct-append, of-append, of-other, numbered-end, starts_whole, starts_more, longer_begins, squeeze, begin_both}
 
 module _ {A B : Type 0} where

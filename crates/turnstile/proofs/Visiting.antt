@@ -1,10 +1,10 @@
 -- What a visit and a join tell of what a pass knows.
-use Rattle.std.proofs.Common.{◌≡◌, ◌≢◌, ℕ, ◌<◌, List, [], ◌∷◌, ◌++◌, length, Option, Some, refl, sym, ap, ◌∙◌, subst, append-nil}
+use Rattle.std.proofs.Common.{◌≡◌, ◌<◌, List, [], ◌∷◌, ◌++◌, length, Option, sym, ap, ◌∙◌, subst, append-nil}
 use Rattle.atomic_table.specs.Table.{Me}
 use Rattle.turnstile.specs.declared.view.Known.{Known}
 use Rattle.turnstile.specs.declared.view.View.{View}
-use Rattle.turnstile.specs.Turns.{Turn, In, least, longer, of, plain}
-use Rattle.turnstile.specs.Knowing.{Stands, Visited, Joined}
+use Rattle.turnstile.specs.Turns.{least, longer, of, plain}
+use Rattle.turnstile.specs.Knowing.{Carries, Stands, Visited, Joined}
 use Rattle.turnstile.specs.Order.{Due, Agree, after}
 use Rattle.turnstile.proofs.Lists.{least-in, of-append, of-same, of-other, plain-append}
 
@@ -16,6 +16,11 @@ module _ {D A B Base : Type 0} (stands : D → Base → List (Option (A × B)) �
   stands_on m m' m'' turn next due same steps = let k : Known D A B = m'.0.known in
       subst (λ (x : Known D A B). Stands stands x next (after turn x).seen) (sym (ap (λ (v : View D A B). v.known) same))
       (λ base c. subst (stands next base) (sym (plain-append k.seen ((least k.numbers, turn) ∷ []))) (steps base (plain k.seen) (due.stood base (c.0, sym due.same.0 ∙ c.1, c.2))))
+
+  -- some desk stands for all that is seen then
+  pub stood_then : (v w k : Known D A B) (turn : Option (A × B)) (next : D) → k.first ≡ v.first → w ≡ after turn k → Stands stands k next (after turn k).seen
+      → (base : Base) → Carries stands v base → (desk : D) × stands desk base (plain w.seen)
+  stood_then v w k turn next first w_is stood base c = (next, subst (λ (x : Known D A B). stands next base (plain x.seen)) (sym w_is) (stood base (c.0, first ∙ c.1, c.2)))
 
   -- the turn ends what is seen, and is one more of those under the least number
   pub visits : (v w : Known D A B) (m m' : Me (Option D) (View D A B)) (turn : Option (A × B)) → m.0.known ≡ v → 0 < length v.numbers → Due stands m m' → w ≡ after turn m'.0.known → Visited turn v w

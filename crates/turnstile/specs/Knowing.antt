@@ -1,7 +1,7 @@
 -- What a pass knows, and what each call on it tells.
-use Rattle.std.specs.Prelude.{◌≡◌, ◌≢◌, ℕ, ◌<◌, List, [], ◌∷◌, ◌++◌, Option, Some, None}
+use Rattle.std.specs.Prelude.{◌≡◌, ◌≢◌, ℕ, List, [], ◌∷◌, ◌++◌, Option, Some}
 use Rattle.turnstile.specs.declared.view.Known.{Known}
-use Rattle.turnstile.specs.Turns.{Turn, StartsWith, longer, In, least, greatest, without, of, plain, Numbered}
+use Rattle.turnstile.specs.Turns.{Turn, StartsWith, longer, In, least, greatest, without, of, plain}
 
 module _ {D A B Base : Type 0} (stands : D → Base → List (Option (A × B)) → Type 0) where
   -- the desk that was handed in stood for no turns from this base

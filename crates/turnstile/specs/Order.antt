@@ -1,6 +1,6 @@
 -- The rule of the table, and what each step tells. Word 0 counts the tickets drawn and word 1 the turns taken, both
 -- modulo 2^64. Slot 0 has the desk.
-use Rattle.std.specs.Prelude.{◌≡◌, ◌≢◌, ◌⊎◌, ℕ, ◌+◌, ◌%◌, ◌^◌, ◌<◌, ◌≤◌, List, [], ◌∷◌, ◌++◌, length, Option, Some, None}
+use Rattle.std.specs.Prelude.{◌≡◌, ◌≢◌, ℕ, ◌+◌, ◌%◌, ◌^◌, ◌<◌, ◌≤◌, List, [], ◌∷◌, ◌++◌, length, Option, Some, None}
 use mathlib.Core.Option.{some, none}
 use mathlib.Core.Option as maybe
 use lib.ListN.{get_elem?}
@@ -10,8 +10,8 @@ use Rattle.turnstile.specs.declared.view.Known.{Known}
 use Rattle.turnstile.specs.declared.view.View.{View}
 use Rattle.turnstile.specs.declared.view.Stage.{Stage}
 use Rattle.turnstile.specs.declared.view.Stage.TheVariants.{Idle, Waits, Serves}
-use Rattle.turnstile.specs.Turns.{Turn, StartsWith, longer, In, Distinct, least, greatest, without, of, plain, Numbered}
-use Rattle.turnstile.specs.Knowing.{Carries, Stands, fresh, left_of, right_of}
+use Rattle.turnstile.specs.Turns.{Turn, StartsWith, longer, In, Distinct, least, of, plain, Numbered}
+use Rattle.turnstile.specs.Knowing.{Stands}
 
 -- how many tickets a seat has
 abbrev pub tickets : Stage → ℕ

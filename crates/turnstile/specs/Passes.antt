@@ -1,9 +1,7 @@
 -- A pass and a list of turns, as contracts see them.
-use Rattle.std.specs.Prelude.{List}
 use Rattle.atomic_table.specs.Seated.{TableId}
 use Rattle.turnstile.specs.declared.view.Known.{Known}
 use Rattle.turnstile.specs.declared.pass.PassOf.{PassOf}
-use Rattle.turnstile.specs.Turns.{Turn}
 
 module _ {D A B : Type 0} where
   abbrev pub known : PassOf D A B → Known D A B

@@ -1,5 +1,5 @@
 -- Turns and numbers. A turn is the number under which it was taken, with its entry, or with None where it is blank.
-use Rattle.std.specs.Prelude.{◌≡◌, ◌≢◌, ℕ, ◌==◌, ◌<◌, ◌⊎◌, List, [], ◌∷◌, ◌++◌, cond, ltb, length, map, min, max, Option, Some, None, Result, Ok, Err}
+use Rattle.std.specs.Prelude.{◌≡◌, ℕ, ◌==◌, ◌<◌, ◌⊎◌, List, [], ◌∷◌, ◌++◌, cond, ltb, length, min, max, Option, Some, None, Result, Ok, Err}
 
 abbrev pub Turn : Type 0 → Type 0 → Type 0
 Turn A B = ℕ × Option (A × B)

@@ -1,6 +1,6 @@
 //! The calls of the turnstile.
 ghost use Rattle.std.specs.Prelude.{◌≡◌, ℕ, ◌<◌, [], ◌∷◌, length, IfOk, IfErr, IsSome, Some};
-ghost use Rattle.turnstile.specs.Turns.{Numbered, entry_of, plain};
+ghost use Rattle.turnstile.specs.Turns.{Numbered, entry_of, of, plain};
 ghost use Rattle.turnstile.specs.Knowing.{Carries, Visited, Joined, Stands, fresh, left_of, right_of};
 ghost use Rattle.turnstile.specs.Passes.{known, table_of};
 
@@ -11,23 +11,38 @@ use crate::steps::{TURN, draw, finish, learn, raise, serve, wait};
 use crate::view::View;
 use atomic_table::Table;
 use std::alloc::Global;
-use std::marker::Brand;
+use std::marker::{Brand, Model};
 use std::snapshot::Snapshot;
 use std::sync::Wait;
 use wire_core::NoMemory;
 
-/// One state, at which the threads that have passes take turns.
+/// One state, at which the threads that have passes take turns. Contracts see it as the name of its table, which
+/// `table_of` gives of its passes.
 #[derive(Drop)]
 pub struct Turnstile<D: Desk> {
-    pub(crate) table: Table<Option<D>, View<D, D::Ask, D::Answer>, Snapshot<D>, Order, Global>,
-    ghost sized: { (table.shared.table_id.words ≡ 2) × (table.shared.table_id.slots ≡ 1) },
+    table: Table<Option<D>, View<D, D::Ask, D::Answer>, Snapshot<D>, Order, Global>,
+}
+
+impl<D: Desk> Model for Turnstile<D> {
+    ghost use Rattle.std.specs.Prelude.{◌≡◌};
+    ghost use Rattle.atomic_table.specs.Seated.{TableId, table_id_coded};
+
+    ghost Value = { TableId };
+
+    ghost coded = { table_id_coded };
+
+    ghost view = { λ t. t.table.shared.table_id };
+
+    ghost invariant = { λ t. (t.table.shared.table_id.words ≡ 2) × (t.table.shared.table_id.slots ≡ 1) };
 }
 
 impl<D: Desk> Turnstile<D> {
-    /// Starts a turnstile with this desk, and gives its one pass, with all four numbers.
+    /// Starts a turnstile with this desk, and gives its one pass, with all four numbers. Without memory the desk comes
+    /// back.
     pub fn start(alloc: Global, desk: D) -> Result<(Turnstile<D>, Pass<D>), Unstarted<D>>
-        ensures table { IfOk result (λ r. table_of r.1 ≡ r.0.table.shared.table_id) }
+        ensures table { IfOk result (λ r. table_of r.1 ≡ r.0) }
         ensures fresh { IfOk result (λ r. known r.1 ≡ fresh desk) }
+        ensures carries { (base : D.Base) → D.stands desk base [] → IfOk result (λ r. Carries D.stands (known r.1) base) }
         ensures same { IfErr result (λ u. u.desk ≡ desk) }
     {
         let about = Snapshot::of(&desk);
@@ -38,17 +53,19 @@ impl<D: Desk> Turnstile<D> {
         }
     }
 
-    /// Waits for its turn, and makes one step of the desk with this ask. The turn is taken under the pass's least number.
+    /// Waits for its turn, and makes one step of the desk with this ask. The turn is taken under the pass's least
+    /// number; where the desk refuses, so does the visit, and its turn is blank.
     pub fn visit<R: Wait>(
         &self,
         rt: &R,
         pass: &mut Pass<D>,
         ask: &D::Ask,
     ) -> Result<D::Answer, D::Refusal>
-        requires { table_of pass.old ≡ self.now.table.shared.table_id }
+        requires { table_of pass.old ≡ self.now }
         ensures table { table_of pass.new ≡ table_of pass.old }
         ensures refused { IfErr result (λ e. D.refuses ask.now e) }
         ensures turn { Visited (entry_of ask.now result) (known pass.old) (known pass.new) }
+        ensures stood { (base : D.Base) → Carries D.stands (known pass.old) base → (desk : D) × D.stands desk base (plain (known pass.new).seen) }
     {
         let top = &self.table.shared;
         let ticket = draw(top, &mut pass.seat);
@@ -61,7 +78,7 @@ impl<D: Desk> Turnstile<D> {
 
     /// Gives the greatest number of the pass to a new one, which has seen as much.
     pub fn split(&self, pass: &mut Pass<D>) -> Pass<D>
-        requires table { table_of pass.old ≡ self.now.table.shared.table_id }
+        requires table { table_of pass.old ≡ self.now }
         requires two { 1 < length (known pass.old).numbers }
         ensures tables { (table_of pass.new ≡ table_of pass.old) × (table_of result ≡ table_of pass.old) }
         ensures left { known pass.new ≡ left_of (known pass.old) }
@@ -73,7 +90,7 @@ impl<D: Desk> Turnstile<D> {
 
     /// Puts the numbers of both passes together. The longer list of turns seen begins with the shorter.
     pub fn join(&self, pass: &mut Pass<D>, other: Pass<D>)
-        requires tables { (table_of pass.old ≡ self.now.table.shared.table_id) × (table_of other ≡ self.now.table.shared.table_id) }
+        requires tables { (table_of pass.old ≡ self.now) × (table_of other ≡ self.now) }
         ensures table { table_of pass.new ≡ table_of pass.old }
         ensures joined { Joined (known pass.old) (known other) (known pass.new) }
     {
@@ -84,9 +101,10 @@ impl<D: Desk> Turnstile<D> {
 
     /// Gives the desk and all turns, to the pass with all four numbers. It waits for nobody: there is no other pass.
     pub fn close(&self, pass: Pass<D>) -> (D, Turns<D>)
-        requires table { table_of pass ≡ self.now.table.shared.table_id }
+        requires table { table_of pass ≡ self.now }
         requires all { length (known pass).numbers ≡ 4 }
         ensures turns { (result.1 ≡ (known pass).seen) × Numbered result.1 }
+        ensures own { (n : ℕ) → of n result.1 ≡ of n (known pass).seen }
         ensures stands { (base : D.Base) → Carries D.stands (known pass) base → D.stands result.0 base (plain result.1) }
     {
         let top = &self.table.shared;

@@ -1,4 +1,4 @@
-use Rattle.std.proofs.Common.{rules, arith}
+use Rattle.std.proofs.Common.{rules}
 use Rattle.turnstile.proofs.Keeping.{draws}
 use Rattle.turnstile.proofs.steps.draw.Goals as goal
 
