@@ -1,0 +1,4 @@
+mod Lists
+mod Keeping
+mod Visiting
+mod Counting

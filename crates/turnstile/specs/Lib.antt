@@ -1,0 +1,5 @@
+pub mod Turns
+pub mod Knowing
+pub mod Order
+pub mod Passes
+pub mod Counter
