@@ -3,9 +3,12 @@ use std::test::Fail;
 
 const SECRET: &[u8] = b"xyzzy5461";
 
-// The request's authenticator, the reply's attributes and the whole reply of RFC 2865, section 7.1.
-const REQUEST: [u8; 16] = [
-    0x0f, 0x40, 0x3f, 0x94, 0x73, 0x97, 0x80, 0x57, 0xbd, 0x83, 0xd5, 0xcb, 0x98, 0xf4, 0x22, 0x7a,
+// The request and the reply of RFC 2865, section 7.1.
+const REQUEST: [u8; 56] = [
+    0x01, 0x00, 0x00, 0x38, 0x0f, 0x40, 0x3f, 0x94, 0x73, 0x97, 0x80, 0x57, 0xbd, 0x83, 0xd5, 0xcb,
+    0x98, 0xf4, 0x22, 0x7a, 0x01, 0x06, 0x6e, 0x65, 0x6d, 0x6f, 0x02, 0x12, 0x0d, 0xbe, 0x70, 0x8d,
+    0x93, 0xd4, 0x13, 0xce, 0x31, 0x96, 0xe4, 0x3f, 0x78, 0x2a, 0x0a, 0xee, 0x04, 0x06, 0xc0, 0xa8,
+    0x01, 0x10, 0x05, 0x06, 0x00, 0x00, 0x00, 0x03,
 ];
 
 const REPLY: [u8; 38] = [
@@ -87,7 +90,8 @@ const TWICE_SEALED: [u8; 74] = [
 
 #[test]
 fn the_reply_of_the_rfc(rt: HostRuntime) -> Result<(), Fail> {
-    let mut reply = Reply::new(rt.alloc(), 2, 0, REQUEST, false)?;
+    let request = Packet::parse(&REQUEST)?;
+    let mut reply = Reply::new(rt.alloc(), 2, request.id(), request.authenticator(), false)?;
     reply.push(6, &[0, 0, 0, 1])?;
     reply.push(15, &[0, 0, 0, 0])?;
     reply.push(14, &[192, 168, 1, 3])?;
@@ -207,7 +211,7 @@ fn faults(rt: HostRuntime) -> Result<(), Fail> {
 
 #[test]
 fn no_room(rt: HostRuntime) -> Result<(), Fail> {
-    let mut reply = Reply::new(rt.alloc(), 2, 0, REQUEST, false)?;
+    let mut reply = Reply::new(rt.alloc(), 2, 0, COUNTING, false)?;
     assert!(rt; reply.push(25, &[0; 254]) == Err(Full));
     for _ in 0..15 {
         reply.push(25, &[0; 253])?;
