@@ -1,4 +1,5 @@
 pub mod CallerLemmas
+pub mod FaultLemmas
 pub mod GroupLemmas
 pub mod ItemLemmas
 pub mod TextLemmas

@@ -1,4 +1,5 @@
 pub mod Avps
+pub mod Faults
 pub mod Reading
 pub mod View
 pub mod Writer

@@ -1,8 +1,10 @@
 //! Laws of the definitions, for every list.
 
-ghost use Rattle.std.specs.Prelude.{◌≡◌, ◌++◌, ℕ, List, Ok};
+ghost use Rattle.std.specs.Prelude.{◌≡◌, ◌++◌, ℕ, List, Ok, Some};
 ghost use Rattle.wire_core.specs.Numbers.{AreOctets};
-ghost use Rattle.diameter_avp.specs.Avps.{AvpParts, IsAvps, avps_text, read_avps};
+ghost use Rattle.diameter_avp.specs.declared.fault.AvpFault.{AvpFault};
+ghost use Rattle.diameter_avp.specs.Avps.{AvpParts, IsAvps, avps_fault, avps_text, read_avps};
+ghost use Rattle.diameter_avp.specs.Faults.{IsFault};
 
 /// Octets are read as the AVPs that they are, and as no others.
 pub fn one_reading()
@@ -10,6 +12,14 @@ pub fn one_reading()
         → IsAvps octets avps → read_avps octets ≡ Ok avps }
     ensures only { (octets : List ℕ) (avps : List AvpParts)
         → AreOctets octets → read_avps octets ≡ Ok avps → IsAvps octets avps }
+{}
+
+/// The fault that reading finds is the one that stands behind whole AVPs at its place.
+pub fn fault_by_place()
+    ensures found { (octets : List ℕ) (fault : AvpFault)
+        → AreOctets octets → avps_fault octets ≡ Some fault → IsFault octets fault }
+    ensures only { (octets : List ℕ) (fault : AvpFault)
+        → IsFault octets fault → avps_fault octets ≡ Some fault }
 {}
 
 /// What is written of AVPs is read as them, wherever any octets are these AVPs.
