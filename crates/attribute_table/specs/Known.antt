@@ -45,8 +45,8 @@ known_codes =
 unfoldable pub is_known : ℕ → Bool
 is_known code = is_some (row_of_avp code) || list_any (λ x. x == code) known_codes
 
--- without a vendor Tunnel-Password, EAP-Key-Name and EAP-Master-Session-Key (RFC 2868, RFC 4072), with the
--- vendor 311 the keys of MS-MPPE and MS-CHAP (RFC 2548)
+-- without a vendor Tunnel-Password, EAP-Key-Name and EAP-Master-Session-Key (RFC 2868, RFC 4072), of the
+-- vendor 311 MS-CHAP-MPPE-Keys, MS-MPPE-Send-Key and MS-MPPE-Recv-Key (RFC 2548)
 abbrev pub is_key : ℕ → Option ℕ → Bool
 is_key code None = code == 69 || code == 102 || code == 464
 is_key code (Some vendor) = vendor == 311 && (code == 12 || code == 16 || code == 17)

@@ -12,7 +12,7 @@ use Rattle.std.proofs.Math.Seq.{drop-append-add, take-append_seam, drop-cons}
 use Rattle.wire_core.specs.Words.{is_identity_octet, is_identity, is_session_text}
 use Rattle.session_carrier.specs.Session.{class_text, state_text}
 use Rattle.session_carrier.specs.declared.reading.Carried.{Carried}
-use Rattle.session_carrier.specs.Carriers.{CarriedParts, carried_view, IsState, IsClass, behind_prefix, slash_place, cut, checked, read_state, checked_session, read_class, StatesAreReadBack, ClassesAreReadBack, StatesHaveOneReading, ClassesHaveOneReading}
+use Rattle.session_carrier.specs.Carriers.{CarriedParts, carried_view, IsState, IsClass, behind_prefix, slash_place, cut, checked, read_state, checked_session, read_class, StatesAreReadBack, ClassesAreReadBack, StatesHaveOneReading, ClassesHaveOneReading, StatesHaveLength, ClassesHaveLength}
 
 -- ---- the prefix
 
@@ -220,3 +220,16 @@ pub classes_have_one_reading : ClassesHaveOneReading
 classes_have_one_reading value s s' one other =
     let same : ◌≡◌ {A = Option (List ℕ)} (Some s) (Some s') = sym (read_class-only value s one) ∙ read_class-only value s' other in
     cc
+
+-- ---- lengths
+
+length-state_text : (host realm session : List ℕ) → length (state_text host realm session) ≡ 9 + length host + 1 + length realm + 1 + length session
+unfolding state_text
+length-state_text host realm session = simp length-append (omega arith)
+
+pub states_have_length : StatesHaveLength
+states_have_length value host realm session is = ap length is.text ∙ length-state_text host realm session
+
+pub classes_have_length : ClassesHaveLength
+unfolding class_text
+classes_have_length value session is = ap length is.text ∙ length-append (codes "Diameter/") session

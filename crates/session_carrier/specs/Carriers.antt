@@ -1,6 +1,6 @@
 -- The values that carry a session through a RADIUS client, and what they carry (profile, after RFC 4005,
 -- section 9).
-use Rattle.std.specs.Prelude.{◌≡◌, ℕ, ◌+◌, ◌&&◌, ◌==◌, nat_eq, IsTrue, if◌then◌else◌, List, take, drop, codes, position, Option, Some, None, option_map, option_and_then}
+use Rattle.std.specs.Prelude.{◌≡◌, ℕ, ◌+◌, ◌&&◌, ◌==◌, nat_eq, IsTrue, if◌then◌else◌, List, length, take, drop, codes, position, Option, Some, None, option_map, option_and_then}
 use Rattle.std.specs.Cmp.Lexicographic.{pointwise}
 use Rattle.wire_core.specs.Words.{is_identity, is_session_text}
 use Rattle.session_carrier.specs.Session.{class_text, state_text}
@@ -77,3 +77,11 @@ StatesHaveOneReading = (value h r s h' r' s' : List ℕ) → IsState value h r s
 
 abbrev pub ClassesHaveOneReading : Type 0
 ClassesHaveOneReading = (value s s' : List ℕ) → IsClass value s → IsClass value s' → s ≡ s'
+
+-- how many octets a State and a Class have
+abbrev pub StatesHaveLength : Type 0
+StatesHaveLength = (value host realm session : List ℕ) → IsState value host realm session →
+    length value ≡ 9 + length host + 1 + length realm + 1 + length session
+
+abbrev pub ClassesHaveLength : Type 0
+ClassesHaveLength = (value session : List ℕ) → IsClass value session → length value ≡ 9 + length session

@@ -1,7 +1,7 @@
 //! Laws of sessions and carriers, for all octets and numbers.
 
 ghost use Rattle.session_carrier.specs.Session.{AccountingSessionsAreTexts, AccountingSessionsHaveLength, FreshSessionsAreShort, FreshSessionsAreTexts, FreshSessionsDiffer};
-ghost use Rattle.session_carrier.specs.Carriers.{StatesAreReadBack, ClassesAreReadBack, StatesHaveOneReading, ClassesHaveOneReading};
+ghost use Rattle.session_carrier.specs.Carriers.{StatesAreReadBack, ClassesAreReadBack, StatesHaveOneReading, ClassesHaveOneReading, StatesHaveLength, ClassesHaveLength};
 
 /// Two serials of one host and boot give two sessions.
 pub fn fresh_sessions_differ()
@@ -46,4 +46,14 @@ pub fn states_have_one_reading()
 /// A value is a Class in one way at most.
 pub fn classes_have_one_reading()
     ensures { ClassesHaveOneReading }
+{}
+
+/// How many octets a State has.
+pub fn states_have_length()
+    ensures { StatesHaveLength }
+{}
+
+/// How many octets a Class has.
+pub fn classes_have_length()
+    ensures { ClassesHaveLength }
 {}
