@@ -125,3 +125,12 @@ pub(crate) fn finish<D: Desk>(top: &Top<D>, seat: &mut Place<D>) -> D
     top.load::<Finish>(seat, TURN);
     top.exchange(seat, 0, None).unwrap()
 }
+
+/// Wakes those that wait, where a ticket is out. Who draws one later than this looks finds the turn raised already.
+pub(crate) fn wake<D: Desk>(top: &Top<D>, ticket: u64)
+    requires { top.now.table_id.words ≡ 2 }
+{
+    if top.peek(TICKET) != ticket.wrapping_add(1) {
+        top.wake_all(TURN);
+    }
+}

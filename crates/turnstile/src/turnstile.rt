@@ -7,7 +7,7 @@ ghost use Rattle.turnstile.specs.Passes.{known, table_of};
 use crate::desk::Desk;
 use crate::order::{Both, Cut, Order};
 use crate::pass::{Pass, PassOf, Turns, TurnsOf, Unstarted};
-use crate::steps::{TURN, draw, finish, learn, raise, serve, wait};
+use crate::steps::{draw, finish, learn, raise, serve, wait, wake};
 use crate::view::View;
 use atomic_table::Table;
 use std::alloc::Global;
@@ -72,7 +72,7 @@ impl<D: Desk> Turnstile<D> {
         wait(rt, top, &mut pass.seat, ticket);
         let outcome = serve(top, &mut pass.seat, ask);
         raise::<D, Brand>(top, &mut pass.seat, ask, &outcome);
-        top.wake_all(TURN);
+        wake(top, ticket);
         outcome
     }
 
