@@ -16,6 +16,11 @@
 //! Each turn then proves itself, whether the loop ends at a fault by `?` or goes on to another
 //! answer. `proofs/CallerLemmas.antt` leads from the fault and the readable AVPs to `read_avps`,
 //! and the functions of `laws` state that reading and writing are inverse.
+//!
+//! `AvpWriter` writes a list. A group in it is open from `begin_group` to `end_group`, and contracts
+//! see it meanwhile as an AVP without a body, behind which its members are put. What `end_group`
+//! requires follows by `proofs/GroupLemmas.antt`: `IsOpen-begun` where the group begins, and then
+//! `IsOpen-put` or `IsOpen-ended` for each member.
 #![tactic(auto)]
 
 mod append;

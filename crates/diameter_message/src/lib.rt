@@ -4,6 +4,9 @@
 //! the writer as `begun` of its header and the list of its AVPs, and `finish` gives `message_text`
 //! of the two. The writer of the AVPs itself is lent by `avps`; a caller that keeps its front, as
 //! its `put` does, may finish the message too.
+//!
+//! A stream is cut into messages by `Framer`. Its clauses `stands` and `stream` speak of all octets
+//! that were fed and of all messages that were given: a loop over pieces keeps `StandsFor` of the two.
 #![tactic(auto)]
 
 mod fault;
