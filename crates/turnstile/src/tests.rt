@@ -3,7 +3,7 @@ ghost use Rattle.turnstile.specs.Turns.{entry_of, least, of};
 ghost use Rattle.turnstile.specs.Passes.{known, table_of};
 ghost use Rattle.turnstile.specs.Counter.{added, Sums};
 
-use crate::{Desk, Pass, Turnstile};
+use crate::{Desk, Pass, Turns, Turnstile};
 use std::sync::Wait;
 use std::test::Fail;
 use std::thread::{Threads, join};
@@ -58,6 +58,26 @@ fn three_visits<R: Wait>(
     (first, second, third)
 }
 
+// Two passes visit once each. In the end each one's turn stands under its own number, and nothing else was added there.
+fn end_of_two<R: Wait>(
+    rt: &R,
+    turnstile: &Turnstile<Counter>,
+    mut one: Pass<Counter>,
+    mut two: Pass<Counter>,
+) -> (Reply, Reply, Turns<Counter>)
+    requires tables { (table_of one ≡ turnstile.now) × (table_of two ≡ turnstile.now) }
+    requires numbers { ((known one).numbers ≡ 0 ∷ 1 ∷ 2 ∷ []) × ((known two).numbers ≡ 3 ∷ []) }
+    ensures one { of 0 result.2 ≡ of 0 (known one).seen ++ entry_of 5 result.0 ∷ [] }
+    ensures none { of 1 result.2 ≡ of 1 (known one).seen }
+    ensures two { of 3 result.2 ≡ of 3 (known two).seen ++ entry_of 7 result.1 ∷ [] }
+{
+    let first = turnstile.visit(rt, &mut one, &5);
+    let second = turnstile.visit(rt, &mut two, &7);
+    turnstile.join(&mut one, two);
+    let (_desk, turns) = turnstile.close(one);
+    (first, second, turns)
+}
+
 fn visit_often<R: Wait>(
     rt: &R,
     turnstile: &Turnstile<Counter>,
@@ -101,6 +121,17 @@ fn one_pass_visits_in_order(rt: HostRuntime) -> Result<(), Fail> {
     assert!(rt; replies == (Ok(5), Err(Zero), Ok(12)));
     let (desk, _turns) = turnstile.close(pass);
     assert!(rt; desk.sum == 12);
+    Ok(())
+}
+
+#[test]
+fn turns_stand_under_their_numbers(rt: HostRuntime) -> Result<(), Fail> {
+    let Ok((turnstile, mut one)) = Turnstile::start(rt.alloc(), Counter { sum: 0 }) else {
+        panic!(rt; "there is memory")
+    };
+    let two = turnstile.split(&mut one);
+    let (first, second, _turns) = end_of_two(&rt, &turnstile, one, two);
+    assert!(rt; first == Ok(5) && second == Ok(12));
     Ok(())
 }
 
