@@ -172,10 +172,6 @@ module _ {A : Type 0} where
   empty_rest a [] e = refl
   empty_rest a (x ∷ b) e = absurd (omega (arith, length-append a (x ∷ b)))
 
-  empty_first : (a b : List A) → length (a ++ b) ≡ 0 → a ≡ []
-  empty_first [] b e = refl
-  empty_first (x ∷ a) b e = absurd (omega arith)
-
 module _ {A B : Type 0} where
   -- a list between two that have the same turns under n has them too
   pub squeeze : (n : ℕ) (xs ys all : List (Turn A B)) → StartsWith ys xs → StartsWith all ys → of n xs ≡ of n all → of n ys ≡ of n all
