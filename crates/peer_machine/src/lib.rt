@@ -31,3 +31,8 @@ pub enum LinkCause {
     Stalled,
     Left,
 }
+
+#[cfg(test)]
+mod tests;
+#[cfg(test)]
+mod vectors;
