@@ -1,0 +1,5 @@
+pub mod Messages
+pub mod Reading
+pub mod Rules
+pub mod Step
+pub mod Writing

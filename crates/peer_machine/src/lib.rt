@@ -1,7 +1,15 @@
-//! The link to the home server: so far its words alone.
+//! The link to the home server: when it opens, watches, answers and closes (RFC 6733, sections 5.3 to 5.5; RFC 3539;
+//! profile).
 #![tactic(auto)]
 
+mod messages;
+mod peer;
+mod reading;
+mod rules;
+mod words;
+
 use diameter_message::FrameFault;
+pub use peer::{Peer, PeerInput, PeerOutput};
 
 /// Where the link to the home server stands (profile).
 #[derive(Clone, Copy, Debug, PartialEq, Eq)]
@@ -23,3 +31,8 @@ pub enum LinkCause {
     Stalled,
     Left,
 }
+
+#[cfg(test)]
+mod tests;
+#[cfg(test)]
+mod vectors;
