@@ -1,7 +1,6 @@
 -- A place has few outputs.
-use Rattle.std.proofs.Common.{◌≡◌, ℕ, ◌≤◌, Bool, true, false, cond, ◌&&◌, List, [], ◌∷◌, length, find, Option, Some, None, Result, Ok, Err, arith}
+use Rattle.std.proofs.Common.{ℕ, ◌≤◌, Bool, true, false, cond, ◌&&◌, List, length, find, Option, Some, None, Result, Ok, Err, arith}
 use Rattle.radius_packet.specs.declared.reasons.Reason.{Reason}
-use Rattle.radius_packet.specs.declared.reasons.Reason.TheVariants.{NotYet}
 use Rattle.diameter_message.specs.declared.fault.MessageFault.{MessageFault}
 use Rattle.diameter_message.specs.Message.{MessageParts}
 use Rattle.agent_config.specs.declared.config.Config.{Config}

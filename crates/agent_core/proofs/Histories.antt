@@ -1,18 +1,16 @@
 -- From one step to whole histories.
-use Rattle.std.proofs.Common.{◌≡◌, ℕ, ◌+◌, ◌<◌, ◌≤◌, List, [], ◌∷◌, ◌++◌, length, map, filter, max, Option, Some, None, refl, sym, ◌∙◌, ap, subst, arith}
+use Rattle.std.proofs.Common.{◌≡◌, ℕ, ◌≤◌, List, [], ◌∷◌, ◌++◌, max, refl, sym, ◌∙◌, ap, subst, arith}
 use Rattle.std.specs.List.{AllByRecursion}
 use Rattle.agent_config.specs.declared.config.Config.{Config}
 use Rattle.agent_config.specs.Config.{FoundStandsAtPlace}
-use Rattle.pending_table.specs.declared.Entry.{Entry}
 use Rattle.pending_table.specs.Table as table
-use Rattle.agent_core.specs.declared.events.Input.{Input}
 use Rattle.agent_core.specs.declared.ledger.Ledger.{Ledger}
-use Rattle.agent_core.specs.History.{Event, Place, Taking, now, place, places, past, live, takings, answer_to}
+use Rattle.agent_core.specs.History.{Event, Place, now, place, places, past, live, takings}
 use Rattle.agent_core.specs.Machine.{Next, next, act, tidied}
-use Rattle.agent_core.specs.Standing.{StandsAt, StandsFor, entry_of, EntryFits, KeptFits, start}
+use Rattle.agent_core.specs.Standing.{StandsAt, StandsFor, entry_of, EntryFits, start}
 use Rattle.agent_core.proofs.Lists.{filter-within, AllByRecursion-filter, AllByRecursion-map, AllByRecursion-weaken}
 use Rattle.agent_core.proofs.Soundness.{IsSound, IsSound-nil, TakingFits}
-use Rattle.agent_core.proofs.Simulation.{Lasts, Before, Follows, StandsAt-later, input-follows, live-agrees}
+use Rattle.agent_core.proofs.Simulation.{Lasts, Follows, StandsAt-later, input-follows, live-agrees}
 
 -- dropping dead entries changes nothing that a history is compared with
 tidied-follows : (ps : List Place) (m : ℕ) (S : Ledger) (p : Place) (n : Next) → Follows ps m S p n → Follows ps m S p (tidied n)

@@ -1,9 +1,9 @@
 -- What the limits of the settings say in numbers.
-use Rattle.std.proofs.Common.{◌≡◌, ℕ, ◌+◌, ◌<◌, ◌≤◌, Bool, true, false, ◌&&◌, length, List, refl, sym, ◌∙◌, ap, arith}
-use Rattle.std.specs.Prelude.{IsTrue, nat_le}
+use Rattle.std.proofs.Common.{◌≡◌, ℕ, ◌<◌, ◌≤◌, true, length, List, arith}
+use Rattle.std.specs.Prelude.{IsTrue}
 use Rattle.std.proofs.lemmas.Bool.{and_parts, leb-true}
 use Rattle.agent_config.specs.declared.config.Config.{Config}
-use Rattle.agent_config.specs.Config.{are_settings_in_limits, is_name, is_between}
+use Rattle.agent_config.specs.Config.{are_settings_in_limits, is_name}
 
 pub record Limits (config : Config) : Type 0 where
   pub host : length config.host ≤ 64

@@ -1,7 +1,7 @@
 -- A core keeps its promise from step to step.
-use Rattle.std.proofs.Common.{◌≡◌, ℕ, ◌+◌, ◌<◌, ◌≤◌, ◌^◌, List, [], ◌∷◌, ◌++◌, length, Option, Some, None, refl, sym, ◌∙◌, ap, subst, arith}
+use Rattle.std.proofs.Common.{◌≡◌, ℕ, ◌<◌, ◌^◌, List, [], ◌∷◌, ◌++◌, Option, Some, None, sym, ◌∙◌, subst, arith}
 use Rattle.std.specs.Prelude.{IfSome, unwrap_or, Result, Ok, Err, OnOk, OnErr, IfOk}
-use Rattle.session_carrier.specs.Session.{fresh_session, FreshSessionsAreShort}
+use Rattle.session_carrier.specs.Session.{FreshSessionsAreShort}
 use Rattle.agent_config.specs.declared.config.Config.{Config}
 use Rattle.agent_config.specs.Config.{InLimits, FoundStandsAtPlace}
 use Rattle.agent_core.specs.declared.events.Output.{Output}

@@ -1,6 +1,5 @@
 -- What is kept goes on to stand for the history, step by step, and the outputs are the rule's.
-use Rattle.std.proofs.Common.{◌≡◌, ◌≢◌, ℕ, ◌+◌, ◌*◌, ◌%◌, ◌-◌, ◌<◌, ◌≤◌, Bool, true, false, cond, ◌&&◌, ◌||◌, not, List, [], ◌∷◌, ◌++◌, length, map, filter, find, max, option_map, Option, Some, None, Result, Ok, Err, refl, sym, ◌∙◌, ap, subst, arith, rules, add-zero}
-use Rattle.std.specs.List.{AllByRecursion}
+use Rattle.std.proofs.Common.{◌≡◌, ℕ, ◌+◌, ◌%◌, ◌<◌, ◌≤◌, Bool, true, false, cond, ◌&&◌, List, [], ◌∷◌, ◌++◌, length, map, filter, find, option_map, Option, Some, None, Result, Ok, Err, refl, sym, ◌∙◌, ap, subst, arith, add-zero}
 use Rattle.std.specs.Prelude.{slice_get, nat_lt, ◌==◌, count_by}
 use Rattle.std.proofs.lemmas.Bool.{ne_eqb, eq-eqb, lt-ltb, ltb-true}
 use Rattle.std.proofs.lemmas.List.{length-map, length-append, map-append}
@@ -35,7 +34,7 @@ use Rattle.agent_core.specs.Machine.{Next, says, rooms_of, entry_for, taken_up}
 use Rattle.agent_core.specs.Standing.{StandsAt, entry_of, answer_in, Ascending}
 use Rattle.std.proofs.lemmas.Option.{slice_get_within}
 use Rattle.diameter_message.specs.declared.fault.MessageFault.{MessageFault}
-use Rattle.diameter_message.specs.Message.{MessageParts, read_message}
+use Rattle.diameter_message.specs.Message.{MessageParts}
 use Rattle.access_map.specs.Answers.{outcome, is_answer, is_built_answer}
 use Rattle.agent_core.proofs.Lists.{AllByRecursion-filter, find-All, filter-within, filter-map, find-map, find-filter, find-same, find-true, filter-same}
 use Rattle.agent_core.proofs.Keys.{same_key-equal}

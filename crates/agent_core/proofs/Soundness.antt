@@ -1,5 +1,5 @@
 -- What holds of each past: the requests that were taken up stand in their order, each with a number of its own.
-use Rattle.std.proofs.Common.{◌≡◌, ◌≢◌, ℕ, ◌+◌, ◌<◌, ◌≤◌, Bool, true, false, cond, ◌&&◌, ◌||◌, not, List, [], ◌∷◌, ◌++◌, length, map, filter, find, max, Option, Some, None, Result, Ok, Err, refl, sym, ◌∙◌, ap, subst, arith, rules}
+use Rattle.std.proofs.Common.{◌≡◌, ◌≢◌, ℕ, ◌+◌, ◌<◌, ◌≤◌, Bool, true, false, cond, ◌||◌, not, List, [], ◌∷◌, ◌++◌, length, Option, Some, None, refl, arith}
 use Rattle.std.specs.List.{AllByRecursion}
 use Rattle.std.specs.Prelude.{slice_get, nat_lt, ◌==◌}
 use Rattle.radius_packet.specs.declared.reasons.Reason.TheVariants.{LinkDown, Spent, Full, Backlog}
@@ -11,7 +11,7 @@ use Rattle.agent_config.specs.declared.config.Config.{Config}
 use Rattle.agent_core.specs.declared.events.Input.{Input}
 use Rattle.agent_core.specs.declared.events.Output.{Output}
 use Rattle.peer_machine.specs.declared.Phase.TheVariants.{Serving}
-use Rattle.agent_core.specs.History.{Event, Place, Taking, LinkState, now, takings, with_taking, answer_to, is_at, link, link_after, begins, begins_at, used, total, serial, sends, still, taking_of, request_sent, boot, Request, Rooms, refusal, rooms, is_serving, place, places, past}
+use Rattle.agent_core.specs.History.{Place, Taking, LinkState, now, takings, answer_to, is_at, link, link_after, begins, begins_at, used, total, serial, sends, taking_of, request_sent, boot, Request, Rooms, refusal, rooms, is_serving}
 use Rattle.agent_core.specs.Standing.{Ascending, KeptFits}
 use Rattle.agent_core.proofs.Lists.{AllByRecursion-push, AllByRecursion-weaken}
 

@@ -1,5 +1,5 @@
 -- A ledger stays fit for a step while time passes, and what it finds is fit for a map.
-use Rattle.std.proofs.Common.{◌≡◌, ℕ, ◌+◌, ◌<◌, ◌≤◌, List, filter, find, Some, refl, sym, ◌∙◌, ap, subst, arith}
+use Rattle.std.proofs.Common.{◌≡◌, ℕ, ◌≤◌, Some, subst, arith}
 use Rattle.std.specs.List.{AllByRecursion}
 use Rattle.pending_table.specs.declared.Entry.{Entry}
 use Rattle.pending_table.specs.Table as table

@@ -1,6 +1,5 @@
 -- The change of one entry, under a filter and under a map.
-use Rattle.std.proofs.Common.{◌≡◌, ◌≢◌, ℕ, ◌+◌, ◌<◌, ◌≤◌, Bool, true, false, cond, ◌&&◌, List, [], ◌∷◌, map, filter, find, Option, Some, None, refl, sym, ◌∙◌, ap, subst, arith}
-use Rattle.std.specs.List.{AllByRecursion}
+use Rattle.std.proofs.Common.{◌≡◌, ◌≢◌, ◌<◌, Bool, true, false, cond, ◌&&◌, List, [], ◌∷◌, map, filter, find, Some, refl, sym, ◌∙◌, ap, arith}
 use Rattle.pending_table.specs.declared.Entry.{Entry}
 use Rattle.pending_table.specs.Table.{update_first}
 use Rattle.agent_core.specs.History.{Taking}

@@ -1,5 +1,5 @@
 -- What a datagram leads to, before anything is changed.
-use Rattle.std.specs.Prelude.{◌≡◌, ◌<◌, length, List, [], ◌∷◌, None, Result, Ok}
+use Rattle.std.specs.Prelude.{◌≡◌, ◌<◌, length, List, None, Result}
 use Rattle.radius_packet.specs.declared.reasons.Reason.{Reason}
 use Rattle.pending_table.specs.declared.Key.{Key}
 use Rattle.session_carrier.specs.declared.kept.Kept.{Kept}

@@ -1,6 +1,6 @@
 -- The rule: what goes out for an input, by the whole history before it. Nothing here has a table, an index,
 -- an expiry or a counter: the history is searched at each place.
-use Rattle.std.specs.Prelude.{◌≡◌, ℕ, ◌+◌, ◌*◌, ◌%◌, ◌-◌, ◌^◌, Bool, true, false, ◌==◌, nat_eq, nat_lt, ◌&&◌, ◌||◌, not, max, List, [], ◌∷◌, ◌++◌, length, filter, find, count_by, Option, Some, None, unwrap_or, Result, Ok, Err, if◌then◌else◌}
+use Rattle.std.specs.Prelude.{ℕ, ◌+◌, ◌*◌, ◌%◌, Bool, true, false, ◌==◌, nat_lt, ◌&&◌, ◌||◌, not, max, List, [], ◌∷◌, ◌++◌, length, filter, find, count_by, Option, Some, None, unwrap_or, Result, Ok, Err, if◌then◌else◌}
 use Rattle.radius_packet.specs.Packet.{PacketParts, packet_text, read_packet}
 use Rattle.radius_packet.specs.declared.reasons.Via.{Via}
 use Rattle.radius_packet.specs.declared.reasons.Via.TheVariants.{Auth, Acct}
@@ -8,7 +8,6 @@ use Rattle.radius_packet.specs.declared.reasons.Reason.{Reason}
 use Rattle.radius_packet.specs.declared.reasons.Reason.TheVariants.{UnknownClient, Waiting, Silent, LinkDown, Spent, Full, Backlog, Unmatched, NotYet}
 use Rattle.radius_packet.specs.declared.fault.PacketFault.{PacketFault}
 use Rattle.diameter_message.specs.declared.fault.MessageFault.{MessageFault}
-use Rattle.diameter_message.specs.declared.header.Header.{Header}
 use Rattle.diameter_message.specs.Message.{MessageParts, read_message}
 use Rattle.session_carrier.specs.Session.{fresh_session}
 use Rattle.session_carrier.specs.Route.{RouteParts}
@@ -24,7 +23,7 @@ use Rattle.access_map.specs.Answers.{is_answer, is_built_answer, outcome}
 use Rattle.pending_table.specs.declared.Key.{Key}
 use Rattle.pending_table.specs.Table.{same_key}
 use Rattle.peer_machine.specs.declared.Phase.{Phase}
-use Rattle.peer_machine.specs.declared.Phase.TheVariants.{Closed, Greeting, Serving, Closing}
+use Rattle.peer_machine.specs.declared.Phase.TheVariants.{Closed, Serving}
 use Rattle.agent_core.specs.declared.events.Input.{Input}
 use Rattle.agent_core.specs.declared.events.Input.TheVariants.{Datagram, Up, Ready, Message, Broken, Down, Tick, Drain, Leave}
 use Rattle.agent_core.specs.declared.events.Output.{Output}

@@ -1,11 +1,10 @@
 -- The same step over what is kept of the history.
-use Rattle.std.specs.Prelude.{ℕ, ◌+◌, ◌%◌, Bool, true, false, ◌&&◌, max, List, [], ◌∷◌, ◌++◌, length, Option, Some, None, slice_get, Result, Ok, Err, if◌then◌else◌}
+use Rattle.std.specs.Prelude.{ℕ, ◌+◌, ◌%◌, Bool, ◌&&◌, max, List, [], ◌∷◌, ◌++◌, length, Option, Some, None, slice_get, Result, Ok, Err, if◌then◌else◌}
 use Rattle.radius_packet.specs.declared.reasons.Reason.{Reason}
 use Rattle.radius_packet.specs.declared.reasons.Reason.TheVariants as reasons
 use Rattle.radius_packet.specs.declared.reasons.Reason.TheVariants.{Unmatched, NotYet}
 use Rattle.diameter_message.specs.declared.fault.MessageFault.{MessageFault}
 use Rattle.diameter_message.specs.Message.{MessageParts, read_message}
-use Rattle.session_carrier.specs.declared.kept.Outcome.{Outcome}
 use Rattle.agent_config.specs.declared.client.Client.{Client}
 use Rattle.access_map.specs.Answers.{is_answer, is_built_answer, outcome}
 use Rattle.session_carrier.specs.declared.kept.Kept.{Kept}
@@ -14,8 +13,7 @@ use Rattle.pending_table.specs.declared.Entry.{Entry}
 use Rattle.pending_table.specs.declared.Answer.{Answer}
 use Rattle.pending_table.specs.declared.Answer.TheVariants.{Waiting, Silent, Replied}
 use Rattle.pending_table.specs.Table as table
-use Rattle.peer_machine.specs.declared.Phase.{Phase}
-use Rattle.peer_machine.specs.declared.Phase.TheVariants.{Closed, Serving}
+use Rattle.peer_machine.specs.declared.Phase.TheVariants.{Serving}
 use Rattle.agent_core.specs.declared.events.Input.{Input}
 use Rattle.agent_core.specs.declared.events.Input.TheVariants.{Datagram, Up, Ready, Message, Broken, Down, Tick, Drain, Leave}
 use Rattle.agent_core.specs.declared.events.Output.{Output}

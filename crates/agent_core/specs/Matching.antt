@@ -1,5 +1,5 @@
 -- What an answer leads to, before anything is changed.
-use Rattle.std.specs.Prelude.{◌≡◌, ℕ, List, Option, Some, None}
+use Rattle.std.specs.Prelude.{◌≡◌, ℕ, List, Some}
 use Rattle.diameter_message.specs.Message.{MessageParts}
 use Rattle.pending_table.specs.declared.Entry.{Entry}
 use Rattle.pending_table.specs.Table as table

@@ -1,5 +1,5 @@
 -- What a line that was read does to a replay.
-use Rattle.std.proofs.Common.{◌≡◌, ℕ, ◌+◌, ◌*◌, ◌≤◌, ◌⊎◌, inl, inr, List, [], ◌∷◌, ◌++◌, length, map, Option, Some, None, refl, sym, ap, ◌∙◌, subst, append_assoc, arith}
+use Rattle.std.proofs.Common.{◌≡◌, ℕ, ◌+◌, ◌*◌, ◌≤◌, inl, inr, List, [], ◌∷◌, ◌++◌, length, map, Option, Some, None, refl, sym, ap, ◌∙◌, subst, arith}
 use Rattle.std.specs.List.{flat_map}
 use Rattle.std.specs.Option.{option_map, option_map_or}
 use Rattle.std.proofs.lemmas.List.{length-append, map-append}
@@ -24,7 +24,7 @@ use Rattle.agent_tool.specs.declared.session.Session.{Session}
 use Rattle.agent_tool.specs.declared.session.Session.TheVariants.{Start, Clients, Running}
 use Rattle.agent_tool.specs.Session.{AtMost, CanFollow, Followed, FollowedPart, GoesOn, IsBegun, RunsAt, event_text}
 use Rattle.agent_tool.specs.Replay.{HasAddresses, IsAt, ReadsAt, section_of}
-use Rattle.agent_tool.proofs.LineLaws.{Bare, Fresh, agent-bare, client-fresh, client-same, said-agent, said-client, said-event}
+use Rattle.agent_tool.proofs.LineLaws.{agent-bare, client-fresh, client-same, said-agent, said-client, said-event}
 
 -- A line that was read may follow, and what it does is a step of the run.
 pub record Advances (session : Session) (now : Stage) (new : Reader) (said : Line) (octets : List ℕ) : Type 0 where

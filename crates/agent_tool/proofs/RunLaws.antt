@@ -1,13 +1,13 @@
 -- How a replay goes on in the run of its transcript, and how it ends.
-use Rattle.std.proofs.Common.{◌≡◌, ℕ, ◌+◌, ◌<◌, ◌≤◌, ◌⊎◌, inl, inr, List, [], ◌∷◌, ◌++◌, length, Option, Some, None, Result, Ok, Err, refl, sym, ap, ◌∙◌, subst, append_assoc, arith}
-use Rattle.std.specs.List.{AllByRecursion, flat_map}
+use Rattle.std.proofs.Common.{◌≡◌, ℕ, ◌+◌, ◌<◌, ◌≤◌, ◌⊎◌, inl, inr, List, [], ◌∷◌, ◌++◌, length, Option, Some, None, Ok, Err, refl, sym, ap, ◌∙◌, subst, append_assoc, arith}
+use Rattle.std.specs.List.{AllByRecursion}
 use Rattle.std.specs.Option.{option_map_or}
 use Rattle.std.specs.Io.KnownBytes.{prepend_known}
 use Rattle.std.proofs.lemmas.List.{append-nil, length-append}
 use Rattle.std.proofs.lemmas.Grind.{flat_map-append}
 use Rattle.std.proofs.lemmas.List.Concat.{flat_map-cons}
 use Rattle.std.specs.declared.hash.RandomState.{RandomState}
-use Rattle.wire_core.specs.Counts.{Counts, Rose}
+use Rattle.wire_core.specs.Counts.{Rose}
 use Rattle.wire_core.proofs.CountLaws.{Rose-earlier}
 use Rattle.wire_core.specs.Source.{Consumes, IsAtEnd}
 use Rattle.wire_core.proofs.SourceLaws.{Consumes-append, Consumes-same, Consumes-told}
@@ -15,11 +15,11 @@ use Rattle.wire_core.specs.Sink.{Appends, AppendsPrefix}
 use Rattle.wire_core.proofs.SinkLaws.{Appends-append, Appends-none, AppendsPrefix-append, AppendsPrefix-whole}
 use Rattle.agent_config.specs.Config.{ClientKeepsLimits}
 use Rattle.transcript.specs.Words.{lines_of}
-use Rattle.transcript.specs.Reading.{Answers, AnswersAt, IsEnding, IsOver, Reader, ReadsLine, ReadsNone, SaysNothing, rest, start}
+use Rattle.transcript.specs.Reading.{AnswersAt, IsEnding, IsOver, Reader, ReadsLine, ReadsNone, SaysNothing, rest, start}
 use Rattle.transcript.specs.Streams.{IsUnended}
 use Rattle.transcript.specs.Run.{Run, RunPrintsText, Stage, Step, ended_text, line_number, places_in, print_first, printed_by, run_from, run_of, step, whole_text}
 use Rattle.transcript.specs.Run as stage
-use Rattle.transcript.specs.Text.{end_line, end_text, text_of}
+use Rattle.transcript.specs.Text.{end_text, text_of}
 use Rattle.transcript.specs.declared.line.Line.{Line}
 use Rattle.transcript.specs.declared.line_fault.LineFault.{LineFault}
 use Rattle.transcript.specs.declared.line_fault.LineFault.TheVariants as fault
@@ -32,10 +32,10 @@ use Rattle.agent_tool.specs.declared.status.Status.{Status}
 use Rattle.agent_tool.specs.Command.{IsOfRun}
 use Rattle.agent_tool.specs.declared.status.Status.TheVariants.{Done, Usage, BadTranscript, ReadFault, WriteFault, OutOfMemory, TooLong}
 use Rattle.agent_tool.specs.Promise.{AreLines, BreaksOff, EndsPart, Overruns, RepliesWhole, StopsAt, WritesPart}
-use Rattle.agent_tool.specs.Replay.{IsAt, IsInRun, IsRead, ReadsAt, ReadsOn, Replays}
+use Rattle.agent_tool.specs.Replay.{IsAt, IsInRun, IsRead, ReadsOn, Replays}
 use Rattle.agent_tool.specs.Session.{CanFollow, Followed, FollowedPart, end_of}
 use Rattle.agent_tool.specs.Status.{fault_status}
-use Rattle.agent_tool.proofs.ReplayLaws.{Advances, advance, stays}
+use Rattle.agent_tool.proofs.ReplayLaws.{advance, stays}
 
 -- ---- runs
 

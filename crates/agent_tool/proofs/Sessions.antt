@@ -1,5 +1,5 @@
 -- A session goes on by an event.
-use Rattle.std.proofs.Common.{◌≡◌, ℕ, ◌+◌, ◌*◌, ◌<◌, ◌≤◌, List, [], ◌∷◌, ◌++◌, length, take, drop, append_assoc, Option, Some, Bool, true, false, cond, refl, sym, ◌∙◌, ap, subst, arith}
+use Rattle.std.proofs.Common.{◌≡◌, ℕ, ◌+◌, ◌≤◌, List, [], ◌∷◌, ◌++◌, length, take, drop, append_assoc, Option, Some, Bool, sym, ◌∙◌, ap, subst, arith}
 use Rattle.std.specs.Prelude.{count_by, slice_get}
 use Rattle.std.proofs.lemmas.List.{drop_more, take-append-drop}
 use Rattle.std.proofs.lemmas.Option.{get_or_from_slice_get, slice_get_within}
@@ -16,7 +16,7 @@ use Rattle.agent_core.specs.Standing.{StandsFor}
 use Rattle.agent_core.specs.Laws.{OutputsAreFew, PastGoesOn}
 use Rattle.transcript.specs.Text.{output_line, is_reply, is_send, is_drop, outputs_of}
 use Rattle.agent_tool.specs.declared.session.Counts.{Counts}
-use Rattle.agent_tool.specs.Session.{RunsAt, RunsOn, AtMost, Stands, counted, event_text}
+use Rattle.agent_tool.specs.Session.{RunsAt, RunsOn, Stands, counted}
 
 -- what went out is what the rule gives
 outputs-are : (core : Ledger) (counts : Counts) (config : Config) (ps : List Place) (e : Event) (outputs : List Output) → ((H : List Event) → StandsFor core H → outputs ≡ outputs_after core.config H e) → RunsAt core counts config ps → outputs ≡ (place config ps e).outputs

@@ -1,5 +1,5 @@
 -- The words of commands (profile).
-use Rattle.std.specs.Prelude.{◌≡◌, Bool, false, List, [], ◌∷◌, String, string_bytes, bytes_eq, codes, ⊤}
+use Rattle.std.specs.Prelude.{Bool, false, List, [], ◌∷◌, String, string_bytes, bytes_eq, codes, ⊤}
 use Rattle.std.specs.declared.alloc.Global.{Global}
 use Rattle.agent_tool.specs.declared.status.Status.{Status}
 use Rattle.agent_tool.specs.declared.status.Status.TheVariants.{Usage}

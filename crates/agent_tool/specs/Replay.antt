@@ -1,8 +1,6 @@
 -- How a replay stands in the run of its transcript.
 use Rattle.std.specs.Prelude.{◌≡◌, ℕ, ◌+◌, ◌*◌, List, [], ◌++◌, length, map, Option, Some, ⊤}
 use Rattle.wire_core.specs.Sink.{Appends}
-use Rattle.agent_config.specs.declared.client.Client.{Client}
-use Rattle.agent_config.specs.declared.config.Config.{Config}
 use Rattle.agent_config.specs.Config.{InLimits}
 use Rattle.transcript.specs.declared.reader.Section.{Section}
 use Rattle.transcript.specs.declared.reader.Section.TheVariants as section

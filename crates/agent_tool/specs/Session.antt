@@ -1,8 +1,7 @@
 -- What a replay knows of the lines so far, and what a line does.
-use Rattle.std.specs.Prelude.{◌≡◌, ℕ, ◌+◌, ◌*◌, ◌<◌, ◌≤◌, List, [], ◌∷◌, ◌++◌, length, map, count_by, Option, Some, None, ⊤}
+use Rattle.std.specs.Prelude.{◌≡◌, ℕ, ◌+◌, ◌<◌, ◌≤◌, List, [], ◌∷◌, length, count_by, Option, None, ⊤}
 use Rattle.std.specs.List.{flat_map}
 use Rattle.wire_core.specs.Sink.{Appends, AppendsPrefix}
-use Rattle.agent_config.specs.declared.client.Client.{Client}
 use Rattle.agent_config.specs.declared.config.Config.{Config}
 use Rattle.agent_config.specs.Config.{InLimits, ClientInLimits, find_address, with_client}
 use Rattle.agent_core.specs.declared.events.Output.{Output}
@@ -13,11 +12,6 @@ use Rattle.agent_core.specs.Standing.{StandsFor}
 use Rattle.transcript.specs.Text.{output_line, end_line, is_reply, is_send, is_drop, outputs_of}
 use Rattle.transcript.specs.declared.line.Line.{Line}
 use Rattle.transcript.specs.declared.line.Line.TheVariants as line
-use Rattle.transcript.specs.declared.reader.Section.TheVariants as section
-use Rattle.transcript.specs.Reading.{Reader, rest}
-use Rattle.transcript.specs.Words.{lines_of}
-use Rattle.transcript.specs.Run.{Stage, line_number, print_first, run_from, run_of}
-use Rattle.transcript.specs.Run as run
 use Rattle.agent_tool.specs.declared.status.Status.{Status}
 use Rattle.agent_tool.specs.declared.status.Status.TheVariants.{Done, WriteFault, OutOfMemory}
 use Rattle.agent_tool.specs.declared.session.Counts.{Counts}

@@ -1,14 +1,14 @@
 -- The definitions on lines and octets from outside.
-use Rattle.std.proofs.Common.{◌≡◌, [], ◌∷◌, true, false, Some, None, codes, refl}
+use Rattle.std.proofs.Common.{◌≡◌, [], ◌∷◌, false, Some, codes, refl}
 use Rattle.std.specs.Fmt.{digits}
 use Rattle.wire_core.specs.Numbers.{number, u32}
 use Rattle.hex.specs.Hex.{decode_pairs, encode_with}
 use Rattle.radius_packet.specs.declared.reasons.Via.TheVariants.{Auth}
 use Rattle.agent_core.specs.declared.events.Input.TheVariants.{Datagram, Ready}
-use Rattle.agent_core.specs.declared.events.Output.TheVariants.{Reply, Send}
+use Rattle.agent_core.specs.declared.events.Output.TheVariants.{Reply}
 use Rattle.agent_config.specs.Config.{are_settings_in_limits, is_client_in_limits}
-use Rattle.transcript.specs.Words.{lines_of, words_of}
-use Rattle.transcript.specs.Lines.{agent_line, client_line, lone_client_line, event_line}
+use Rattle.transcript.specs.Words.{lines_of}
+use Rattle.transcript.specs.Lines.{agent_line, lone_client_line, event_line}
 use Rattle.transcript.specs.Text.{end_line, output_line}
 
 lines_of-two : lines_of (codes "ab\n\nc") ≡ codes "ab" ∷ [] ∷ codes "c" ∷ []

@@ -1,5 +1,5 @@
 -- A text that ends in octets.
-use Rattle.std.proofs.Common.{◌≡◌, ℕ, List, [], ◌∷◌, ◌++◌, Result, IfOk, subst, ap, ◌∙◌}
+use Rattle.std.proofs.Common.{◌≡◌, ℕ, List, [], ◌∷◌, ◌++◌, Result, IfOk, subst}
 use Rattle.transcript.specs.Text.{hex_text}
 
 -- what `with_hex` makes of a start is a line, where the start and the octets in hex are

@@ -1,7 +1,7 @@
 -- What the octets that were taken say of the lines of a text.
-use Rattle.std.proofs.Common.{◌≡◌, ℕ, ◌+◌, ◌<◌, ◌≤◌, Bool, true, false, ◌||◌, eqb, leb, List, [], ◌∷◌, ◌++◌, length, Option, Some, None, if◌then◌else◌, refl, sym, ap, ◌∙◌, subst, append_assoc, arith}
+use Rattle.std.proofs.Common.{◌≡◌, ℕ, ◌+◌, ◌<◌, Bool, true, false, ◌||◌, eqb, leb, List, [], ◌∷◌, ◌++◌, length, Option, Some, None, if◌then◌else◌, refl, sym, ap, ◌∙◌, append_assoc, arith}
 use Rattle.std.proofs.lemmas.List.{append-nil, length-append}
-use Rattle.wire_core.specs.Source.{Consumes, IsAtEnd}
+use Rattle.wire_core.specs.Source.{Consumes}
 use Rattle.wire_core.proofs.SourceLaws.{Consumes-end, Consumes-told}
 use Rattle.transcript.specs.Words.{in_front, lines_of, split, words_of}
 use Rattle.transcript.specs.Streams.{Cutting, Held, IsUnended}
@@ -11,7 +11,7 @@ use Rattle.transcript.specs.declared.reader.Section.{Section}
 use Rattle.transcript.specs.declared.reader.Section.TheVariants.{Start, Clients, Events}
 use Rattle.transcript.specs.declared.reader.Progress.{Progress}
 use Rattle.transcript.specs.declared.reader.Progress.TheVariants.{Reading, Ended, Refused}
-use Rattle.transcript.specs.Reading.{IsEnding, Reader, ReadsNone, SaysNothing, TakesNoOctets, line_at}
+use Rattle.transcript.specs.Reading.{IsEnding, Reader, ReadsNone, TakesNoOctets, line_at}
 
 or-left : (a b : Bool) → (a || b) ≡ false → a ≡ false
 or-left true b e = e

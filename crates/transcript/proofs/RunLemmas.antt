@@ -5,10 +5,10 @@ use Rattle.agent_config.specs.declared.client.Client.{Client}
 use Rattle.agent_config.specs.declared.config.Config.{Config}
 use Rattle.agent_config.specs.Config.{with_client}
 use Rattle.agent_core.specs.History.{Event, Place, place}
-use Rattle.transcript.specs.Words.{◌>>=◌, lines_of}
+use Rattle.transcript.specs.Words.{◌>>=◌}
 use Rattle.transcript.specs.Lines.{agent_line, client_line, event_line, read_clients, read_events}
 use Rattle.transcript.specs.Text.{event_number, place_text, text_after, transcript_text, text_of_lines}
-use Rattle.transcript.specs.Run.{Stage, Start, Clients, Events, Step, Run, print_first, run_from, whole_text}
+use Rattle.transcript.specs.Run.{Start, Clients, Events, Step, Run, print_first, run_from, whole_text}
 
 abbrev stopped : ℕ → Run
 stopped n = record { printed = []; stop = Some n }

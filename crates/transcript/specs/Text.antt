@@ -1,7 +1,6 @@
 -- What a transcript's run prints (profile).
-use Rattle.std.specs.Prelude.{ℕ, ◌+◌, Bool, true, false, nat_eq, List, [], ◌∷◌, ◌++◌, length, map, codes, decimal, count_by, sum_by, Option, Some, None, option_map, if◌then◌else◌}
+use Rattle.std.specs.Prelude.{ℕ, ◌+◌, Bool, true, false, nat_eq, List, [], ◌∷◌, ◌++◌, length, map, codes, decimal, count_by, sum_by, Option, Some, option_map, if◌then◌else◌}
 use Rattle.std.specs.List.{join_with_byte, flat_map}
-use Rattle.std.specs.Option.{option_map_or}
 use Rattle.wire_core.specs.Numbers.{u32}
 use Rattle.hex.specs.Hex.{encode_lower}
 use Rattle.radius_packet.specs.declared.reasons.Via.{Via}
@@ -14,12 +13,11 @@ use Rattle.diameter_message.specs.declared.fault.FrameFault.TheVariants as frame
 use Rattle.peer_machine.specs.declared.LinkCause.{LinkCause}
 use Rattle.peer_machine.specs.declared.LinkCause.TheVariants as link
 use Rattle.agent_config.specs.declared.config.Config.{Config}
-use Rattle.agent_config.specs.Config.{with_client}
 use Rattle.agent_core.specs.declared.events.Output.{Output}
 use Rattle.agent_core.specs.declared.events.Output.TheVariants.{Reply, Send, Dropped, Closed}
 use Rattle.agent_core.specs.History.{Event, Place, place}
-use Rattle.transcript.specs.Words.{◌>>=◌, lines_of}
-use Rattle.transcript.specs.Lines.{agent_line, client_line, event_line, read_transcript}
+use Rattle.transcript.specs.Words.{lines_of}
+use Rattle.transcript.specs.Lines.{read_transcript}
 
 -- ---- one line
 

@@ -1,4 +1,4 @@
-use Rattle.std.proofs.Common.{◌≡◌, ◌≤◌, ◌⊎◌, inl, inr, Ok, refl, sym, ap, ◌∙◌, subst, arith}
+use Rattle.std.proofs.Common.{inl, inr, Ok, refl, sym, ap, ◌∙◌, subst, arith}
 use Rattle.agent_tool.specs.Promise.{WritesPart}
 use Rattle.agent_tool.proofs.RunLaws.{bad-status, begins, breaks-off, ends-part, goes-on, is-short, keeps-part, long-status, memory-status, none-limit, none-taken, overruns, read-status, reads-on, replies, stops, too-long, was-reading, was-refused}
 use Rattle.agent_tool.proofs.replay.follow_all.Goals as goal

@@ -1,5 +1,4 @@
-use Rattle.std.proofs.Common.{rules, ◌≡◌, ap, sym, ◌∙◌, subst}
-use Rattle.agent_tool.specs.Promise.{RepliesWhole}
+use Rattle.std.proofs.Common.{rules, ap, ◌∙◌}
 use Rattle.agent_tool.proofs.RunLaws.{completes, nothing-done}
 use Rattle.agent_tool.proofs.replay.replay.Goals as goal
 

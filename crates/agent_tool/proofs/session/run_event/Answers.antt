@@ -1,5 +1,5 @@
 -- The core's step is the rule's, its outputs are printed and counted.
-use Rattle.std.proofs.Common.{◌≡◌, ◌≤◌, length, sym, ◌∙◌, ap, subst, arith}
+use Rattle.std.proofs.Common.{length, ◌∙◌, ap, arith}
 use Rattle.agent_core.specs.History.{past}
 use Rattle.agent_tool.proofs.Sessions.{runs-on}
 use Rattle.agent_tool.proofs.session.run_event.Goals as goal

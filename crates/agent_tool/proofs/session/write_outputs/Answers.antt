@@ -1,5 +1,5 @@
 -- The lines so far were written, and of the next one a prefix.
-use Rattle.std.proofs.Common.{◌≡◌, ◌<◌, ◌≤◌, take, length, refl, sym, subst, arith, rules}
+use Rattle.std.proofs.Common.{◌≡◌, ◌<◌, take, length, refl, sym, subst, rules}
 use Rattle.std.specs.List.{flat_map}
 use Rattle.std.proofs.lemmas.List.{take_all}
 use Rattle.std.proofs.lemmas.Option.{slice_get_read}

@@ -1,4 +1,4 @@
-use Rattle.std.proofs.Common.{◌∙◌, sym}
+use Rattle.std.proofs.Common.{sym}
 use Rattle.transcript.proofs.PieceLemmas.{split-found, split-whole}
 use Rattle.transcript.proofs.pieces.cut.Goals as goal
 

@@ -1,8 +1,5 @@
 -- The ledger's step is the rule's, and the core stands for the history with the event.
-use Rattle.std.proofs.Common.{sym, subst, ap}
-use Rattle.agent_core.specs.declared.ledger.Ledger.{Ledger}
 use Rattle.agent_core.specs.History.{Event}
-use Rattle.agent_core.specs.Standing.{StandsFor}
 use Rattle.agent_core.specs.Machine.{next}
 use Rattle.agent_core.proofs.Promises.{core-steady, core-next, core-after, answers-of, stands-of}
 use Rattle.agent_core.proofs.core_step.Core.step.Goals as goal

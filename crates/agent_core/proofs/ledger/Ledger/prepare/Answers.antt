@@ -1,7 +1,5 @@
 -- A host of the settings has at most 64 octets, so a fresh session fits into a Class.
-use Rattle.std.proofs.Common.{◌≤◌, ◌<◌, ◌^◌, ◌+◌, length, arith, ap, rules}
-use Rattle.session_carrier.specs.Session.{fresh_session}
-use Rattle.agent_core.specs.History.{boot}
+use Rattle.std.proofs.Common.{◌≤◌, ◌<◌, ◌^◌, length, arith, ap}
 use Rattle.agent_core.proofs.Limits.{limits}
 use Rattle.agent_core.proofs.ledger.Ledger.prepare.Goals as goal
 

@@ -1,5 +1,5 @@
 -- The ledger is as fit at a later moment.
-use Rattle.std.proofs.Common.{sym, arith, ◌≤◌}
+use Rattle.std.proofs.Common.{arith}
 use Rattle.agent_core.proofs.Steady.{steady-later}
 use Rattle.agent_core.proofs.ledger.Ledger.step.Goals as goal
 

@@ -1,4 +1,4 @@
-use Rattle.std.proofs.Common.{ℕ, ◌-◌, length, drop, ap, ◌∙◌, arith}
+use Rattle.std.proofs.Common.{◌-◌, length, drop, ap, ◌∙◌, arith}
 use Rattle.std.proofs.lemmas.List.{length-take}
 use Rattle.transcript.specs.Streams.{Held}
 use Rattle.transcript.proofs.StreamLemmas.{drop-range}

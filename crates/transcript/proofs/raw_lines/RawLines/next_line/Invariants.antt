@@ -1,4 +1,4 @@
-use Rattle.std.proofs.Common.{◌≡◌, ◌+◌, ◌-◌, ◌≤◌, ◌==◌, [], length, List, ℕ}
+use Rattle.std.proofs.Common.{◌≡◌, ◌+◌, ◌-◌, length}
 use Rattle.wire_core.specs.Source.{Consumes}
 use Rattle.transcript.specs.Streams.{IsUnended, rest_of}
 use Rattle.transcript.proofs.raw_lines.RawLines.next_line.Given as goal

@@ -1,6 +1,5 @@
-use Rattle.std.proofs.Common.{rules, ◌≡◌, ◌+◌, ◌++◌, refl, sym, ap, ◌∙◌}
+use Rattle.std.proofs.Common.{◌++◌, refl, sym, ◌∙◌}
 use Rattle.std.proofs.lemmas.Result.{err_from_is_err_and}
-use Rattle.transcript.specs.Reading.{Reader}
 use Rattle.wire_core.proofs.SourceLaws.{Consumes-append}
 use Rattle.transcript.proofs.StreamLemmas.{Consumes-held}
 use Rattle.transcript.proofs.ReadingLaws.{line-opens, none-taken, nothing-said}
