@@ -1,5 +1,5 @@
 -- One step of the link (RFC 6733, sections 5.3 to 5.5; profile).
-use Rattle.std.specs.Prelude.{◌≡◌, ℕ, ◌+◌, ◌^◌, ◌<◌, ◌≤◌, Bool, true, false, List, length, Option, Some, None}
+use Rattle.std.specs.Prelude.{ℕ, ◌+◌, ◌^◌, ◌<◌, ◌≤◌, Bool, true, false, List, length, Option, Some, None}
 use Rattle.radius_packet.specs.declared.reasons.Reason.{Reason}
 use Rattle.diameter_message.specs.Message.{MessageParts}
 use Rattle.diameter_message.specs.View.{message_view}
@@ -12,7 +12,7 @@ use Rattle.peer_machine.specs.declared.peer.PeerOutput.{PeerOutput}
 use Rattle.peer_machine.specs.declared.words.Event.{Event}
 use Rattle.peer_machine.specs.declared.words.Event.TheVariants.{Opens, Serves, Says, Breaks, Ends, Ticks, Leaves}
 use Rattle.peer_machine.specs.declared.words.Act.{Act}
-use Rattle.peer_machine.specs.declared.words.Act.TheVariants.{Nothing, Serve, Discard, Pass, Close, Request, Answer, AnswerAndClose}
+use Rattle.peer_machine.specs.declared.words.Act.TheVariants.{Discard, Pass, Close, Request, Answer, AnswerAndClose}
 use Rattle.peer_machine.specs.declared.words.LinkState.{LinkState}
 use Rattle.peer_machine.specs.Messages.{request_text, answer_text}
 use Rattle.peer_machine.specs.Reading.{said_in}

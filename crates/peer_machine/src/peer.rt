@@ -155,19 +155,13 @@ fn dropped_by(act: Act) -> Option<Reason>
 fn is_request(act: Act) -> bool
     ensures { result ≡ specs.is_request act }
 {
-    match act {
-        Act::Request { .. } => true,
-        _ => false,
-    }
+    matches!(act, Act::Request { .. })
 }
 
 fn is_pass(act: Act) -> bool
     ensures { result ≡ specs.is_pass act }
 {
-    match act {
-        Act::Pass => true,
-        _ => false,
-    }
+    matches!(act, Act::Pass)
 }
 
 fn output_of(send: Option<Octets>, act: Act) -> PeerOutput

@@ -244,7 +244,7 @@ fn ticks(rt: HostRuntime) -> Result<(), Fail> {
 }
 
 #[test]
-fn messages(rt: HostRuntime) -> Result<(), Fail> {
+fn answers_in_each_phase(rt: HostRuntime) -> Result<(), Fail> {
     let alloc = rt.alloc();
     let unmatched = [
         CLOSED,

@@ -1,5 +1,5 @@
 -- What was put is the list of the answer.
-use Rattle.std.proofs.Common.{◌≡◌, ℕ, [], ◌∷◌, ◌++◌, ap, ◌∙◌, arith, append_assoc}
+use Rattle.std.proofs.Common.{[], ◌∷◌, ap, ◌∙◌, arith, append_assoc}
 use Rattle.std.specs.Prelude.{find}
 use Rattle.wire_core.specs.Numbers.{u32}
 use Rattle.diameter_avp.specs.Avps.{avps_text, readable_avps}
