@@ -17,7 +17,7 @@ use Rattle.agent_config.specs.Config.{ClientKeepsLimits}
 use Rattle.transcript.specs.Words.{lines_of}
 use Rattle.transcript.specs.Reading.{AnswersAt, IsEnding, IsOver, Reader, ReadsLine, ReadsNone, SaysNothing, rest, start}
 use Rattle.transcript.specs.Streams.{IsUnended}
-use Rattle.transcript.specs.Run.{Run, RunPrintsText, Stage, Step, ended_text, line_number, places_in, print_first, printed_by, run_from, run_of, step, whole_text}
+use Rattle.transcript.specs.Run.{Run, RunPrintsText, RunStopsFirst, Stage, Step, ended_text, line_number, places_in, print_first, printed_by, run_from, run_of, step, whole_text}
 use Rattle.transcript.specs.Run as stage
 use Rattle.transcript.specs.Text.{end_text, text_of}
 use Rattle.transcript.specs.declared.line.Line.{Line}
@@ -285,17 +285,19 @@ replies law session old new input left then before written after replays end sam
     }
 
 -- a line that says nothing stops the run
-pub stops : (session : Session) (old : Reader) (input left before written : Option (List ℕ)) (line : ℕ)
+pub stops : RunStopsFirst → (session : Session) (old : Reader) (input left before written : Option (List ℕ)) (line : ℕ)
     → Replays session old input left before written → SaysNothing (rest old left) old → line ≡ old.number + 1
     → (text : List ℕ) → input ≡ Some text → StopsAt text line before written
-stops session old input left before written line replays nothing number text told =
+stops law session old input left before written line replays nothing number text told =
     let run = replays.run text told in
     let (octets, (more, is, none)) = nothing run.to_come run.is_to_come in
     let here : run_of text ≡ print_first replays.printed (stopped (line_number replays.now)) =
     run.runs ∙ ap (λ lines. print_first replays.printed (run_from replays.now lines)) is
     ∙ ap (print_first replays.printed) (run-stop replays.now octets more (stays replays.now old octets replays.reads none)) in
+    let stop : (run_of text).stop ≡ Some line = ap (λ (r : Run). r.stop) here ∙ ap Some (sym (number ∙ replays.reads.number)) in
     record {
-      stop = ap (λ (r : Run). r.stop) here ∙ ap Some (sym (number ∙ replays.reads.number));
+      first = law (lines_of text) line stop;
+      stop = stop;
       written = subst (Appends before written) (sym (ap (λ (r : Run). r.printed) here ∙ append-nil replays.printed)) replays.wrote;
     }
 

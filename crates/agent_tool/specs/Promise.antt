@@ -4,7 +4,8 @@ use Rattle.std.specs.List.{AllByRecursion}
 use Rattle.wire_core.specs.Sink.{Appends, AppendsPrefix}
 use Rattle.wire_core.specs.Source.{Consumes}
 use Rattle.transcript.specs.Streams.{IsUnended}
-use Rattle.transcript.specs.Run.{Start, ended_text, printed_by, run_of}
+use Rattle.transcript.specs.Words.{lines_of}
+use Rattle.transcript.specs.Run.{Start, StopsFirst, ended_text, printed_by, run_of}
 use Rattle.transcript.specs.Text.{text_of}
 
 -- The input is at its end, it was a transcript, and exactly its text was written.
@@ -14,9 +15,10 @@ pub record RepliesWhole (input : List ℕ) (left before now : Option (List ℕ))
   pub is_text : text_of input ≡ Some text
   pub written : Appends before now text
 
--- The run of the input stops at this line, which may not stand where it stands, and exactly what it printed before
--- was written.
+-- The run of the input stops at this line, which is the first with which the input is no transcript, and exactly what
+-- it printed before was written.
 pub record StopsAt (input : List ℕ) (line : ℕ) (before now : Option (List ℕ)) : Type 0 where
+  pub first : StopsFirst (lines_of input) line
   pub stop : (run_of input).stop ≡ Some line
   pub written : Appends before now (run_of input).printed
 

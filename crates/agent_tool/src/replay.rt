@@ -59,6 +59,7 @@ fn follow_all<S: Source, K: Sink>(
         → (X : List ℕ) → S.left lines.old.source.now ≡ Some X → length X ≤ 1099511627776 }
 {
     transcript::run_prints_text();
+    transcript::run_stops_first();
     agent_config::client_keeps_limits();
     let mut session = Session::Start { random };
     loop {

@@ -3,5 +3,6 @@ pub mod PieceLemmas
 pub mod PrintLemmas
 pub mod ReadingLaws
 pub mod RunLemmas
+mod StopLemmas
 mod StreamLemmas
 pub mod WordLemmas

@@ -1,5 +1,5 @@
 -- A transcript's run line by line, up to the first line that may not stand where it stands (profile).
-use Rattle.std.specs.Prelude.{◌≡◌, ℕ, List, [], ◌∷◌, ◌++◌, Option, Some, None, option_map}
+use Rattle.std.specs.Prelude.{◌≡◌, ℕ, ◌+◌, List, [], ◌∷◌, ◌++◌, take, Option, Some, None, option_map}
 use Rattle.std.specs.List.{flat_map}
 use Rattle.std.specs.Option.{option_map_or}
 use Rattle.agent_config.specs.declared.config.Config.{Config}
@@ -7,7 +7,7 @@ use Rattle.agent_config.specs.Config.{with_client}
 use Rattle.agent_core.specs.History.{Place, place}
 use Rattle.transcript.specs.Words.{lines_of}
 use Rattle.transcript.specs.Lines.{agent_line, client_line, event_line}
-use Rattle.transcript.specs.Text.{end_text, event_number, place_text, text_of}
+use Rattle.transcript.specs.Text.{end_text, event_number, place_text, text_of, text_of_lines}
 
 -- what the lines so far were: none, the agent line and perhaps client lines, or event lines too
 pub data Stage : Type 0 where
@@ -75,3 +75,15 @@ whole_text run = option_map_or (λ line. None) run.stop (Some run.printed)
 -- a run goes to the end exactly where the text is a transcript, and then prints the transcript's text
 abbrev pub RunPrintsText : Type 0
 RunPrintsText = (text : List ℕ) → whole_text (run_of text) ≡ text_of text
+
+-- A run that stops before the end stops at the first line with which the text is no transcript: the lines before it
+-- are one, and no lines that begin with these and this one are.
+pub record StopsFirst (lines : List (List ℕ)) (n : ℕ) : Type 0 where
+  pub before : ℕ
+  pub is_next : n ≡ before + 1
+  pub text : List ℕ
+  pub reads : text_of_lines (take before lines) ≡ Some text
+  pub fails : (more : List (List ℕ)) → text_of_lines (take n lines ++ more) ≡ None
+
+abbrev pub RunStopsFirst : Type 0
+RunStopsFirst = (lines : List (List ℕ)) (n : ℕ) → (run_from Start lines).stop ≡ Some n → StopsFirst lines n

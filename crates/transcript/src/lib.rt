@@ -19,7 +19,7 @@ mod words;
 pub use agent::read_agent;
 pub use client::read_client;
 pub use event::read_event;
-pub use laws::run_prints_text;
+pub use laws::{run_prints_text, run_stops_first};
 pub use line::{Inputs, Line};
 pub use line_fault::LineFault;
 pub use lines::Lines;

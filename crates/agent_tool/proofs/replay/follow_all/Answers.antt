@@ -49,7 +49,7 @@ returns-in-Err-clause-bad g c line reason is text told =
     let kept = c.loop-line.invariant in
     let (reading, none) = was-refused _ _ _ _ _ _ _ c.in-Err.fault kept.reads_on c.in-Err.ensures.answers in
     let (number, because, nothing) = bad-status c.in-Err.fault _ _ _ line reason none (sym c.status_of.ensures.status ∙ is) in
-    stops c.loop-line.session _ _ _ _ _ line kept.replays nothing number text told
+    stops c.run_stops_first.ensures c.loop-line.session _ _ _ _ _ line kept.replays nothing number text told
 
 pub returns-in-Err-clause-long : goal.returns-in-Err-clause-long
 returns-in-Err-clause-long g c is text told =
