@@ -1,4 +1,3 @@
-mod LineLaws
 mod ReplayLaws
 mod RunLaws
 mod Sessions

@@ -19,12 +19,12 @@ use Rattle.transcript.specs.Text.{event_number, output_line, place_text}
 use Rattle.transcript.specs.declared.line.Line.{Line}
 use Rattle.transcript.specs.declared.line.Line.TheVariants as line
 use Rattle.transcript.specs.declared.reader.Section.TheVariants as section
+use Rattle.transcript.proofs.LineLaws.{agent-bare, client-fresh, client-same, said-agent, said-client, said-event}
 use Rattle.agent_tool.specs.declared.session.Counts.{Counts}
 use Rattle.agent_tool.specs.declared.session.Session.{Session}
 use Rattle.agent_tool.specs.declared.session.Session.TheVariants.{Start, Clients, Running}
 use Rattle.agent_tool.specs.Session.{AtMost, CanFollow, Followed, FollowedPart, GoesOn, IsBegun, RunsAt, event_text}
 use Rattle.agent_tool.specs.Replay.{HasAddresses, IsAt, ReadsAt, section_of}
-use Rattle.agent_tool.proofs.LineLaws.{agent-bare, client-fresh, client-same, said-agent, said-client, said-event}
 
 -- A line that was read may follow, and what it does is a step of the run.
 pub record Advances (session : Session) (now : Stage) (new : Reader) (said : Line) (octets : List ℕ) : Type 0 where

@@ -1,6 +1,5 @@
 -- How a replay goes on in the run of its transcript, and how it ends.
 use Rattle.std.proofs.Common.{◌≡◌, ℕ, ◌+◌, ◌<◌, ◌≤◌, ◌⊎◌, inl, inr, List, [], ◌∷◌, ◌++◌, length, Option, Some, None, Ok, Err, refl, sym, ap, ◌∙◌, subst, append_assoc, arith}
-use Rattle.std.specs.List.{AllByRecursion}
 use Rattle.std.specs.Option.{option_map_or}
 use Rattle.std.specs.Io.KnownBytes.{prepend_known}
 use Rattle.std.proofs.lemmas.List.{append-nil, length-append}
@@ -14,6 +13,7 @@ use Rattle.wire_core.proofs.SourceLaws.{Consumes-append, Consumes-same, Consumes
 use Rattle.wire_core.specs.Sink.{Appends, AppendsPrefix}
 use Rattle.wire_core.proofs.SinkLaws.{Appends-append, Appends-none, AppendsPrefix-append, AppendsPrefix-whole}
 use Rattle.agent_config.specs.Config.{ClientKeepsLimits}
+use Rattle.agent_core.proofs.Lists.{AllByRecursion-push}
 use Rattle.transcript.specs.Words.{lines_of}
 use Rattle.transcript.specs.Reading.{AnswersAt, IsEnding, IsOver, Reader, ReadsLine, ReadsNone, SaysNothing, rest, start}
 use Rattle.transcript.specs.Streams.{IsUnended}
@@ -110,10 +110,6 @@ reads-on (Refused fault) first then now left octets ending is stay ended = absur
 
 -- ---- the lines so far
 
-All-push : {X : Type 0} (P : X → Type 0) (xs : List X) (y : X) → AllByRecursion P xs → P y → AllByRecursion P (xs ++ y ∷ [])
-All-push P [] y all h = (h, tt)
-All-push P (x ∷ xs) y all h = (all.0, All-push P xs y all.1 h)
-
 abbrev with_end : List ℕ → List ℕ
 with_end line = line ++ 10 ∷ []
 
@@ -170,7 +166,7 @@ line-in-run text now next printed more old new left then said line reading steps
     let whole = read-whole old.progress at.taken at.lines reading at.is_read in
     record {
       lines = at.lines ++ line.octets ∷ [];
-      each = All-push IsUnended at.lines line.octets at.each line.unended;
+      each = AllByRecursion-push IsUnended at.lines line.octets at.each line.unended;
       taken = at.taken ++ (line.octets ++ line.ending);
       is_read =
           subst (λ taken. IsRead new.progress (taken ++ (line.octets ++ line.ending)) (at.lines ++ line.octets ∷ [])) (sym whole)

@@ -1,4 +1,5 @@
 pub mod Examples
+pub mod LineLaws
 pub mod PieceLemmas
 pub mod PrintLemmas
 pub mod ReadingLaws

@@ -1,48 +1,16 @@
 -- Where a run stops.
-use Rattle.std.proofs.Common.{◌≡◌, ℕ, suc, ◌+◌, Bool, true, false, if◌then◌else◌, List, [], ◌∷◌, ◌++◌, length, take, Option, Some, None, codes, refl, sym, ap, ◌∙◌, arith}
+use Rattle.std.proofs.Common.{◌≡◌, ℕ, suc, ◌+◌, List, [], ◌∷◌, ◌++◌, length, take, Option, Some, None, refl, sym, ap, ◌∙◌, arith}
 use Rattle.std.specs.Option.{option_map, option_map_or}
 use Rattle.std.proofs.lemmas.List.{length-append}
 use Rattle.agent_config.specs.declared.client.Client.{Client}
 use Rattle.agent_config.specs.declared.config.Config.{Config}
-use Rattle.agent_config.specs.Config.{are_settings_in_limits, with_client}
+use Rattle.agent_config.specs.Config.{with_client}
 use Rattle.agent_core.specs.History.{Event, Place, place}
-use Rattle.transcript.specs.Words.{◌>>=◌, address_word, number_word, words_of}
-use Rattle.transcript.specs.Lines.{agent_line, client_line, event_line, in_limits, settings_of, words_after}
+use Rattle.transcript.specs.Lines.{agent_line, client_line, event_line}
 use Rattle.transcript.specs.Text.{event_number, place_text, text_of_lines}
 use Rattle.transcript.specs.Run.{Stage, Start, Clients, Events, Step, Run, StopsFirst, line_number, print_first, run_from, step, whole_text}
+use Rattle.transcript.proofs.LineLaws.{agent-bare}
 use Rattle.transcript.proofs.RunLemmas.{run_from-start}
-
--- ---- the settings of an agent line have no clients
-
-bind-some : {A B : Type 0} (o : Option A) (f : A → Option B) (y : B) → (o >>= f) ≡ Some y
-    → (x : A) × (o ≡ Some x) × (f x ≡ Some y)
-bind-some None f y e = cc
-bind-some (Some x) f y e = (x, refl, e)
-
-choice-same : {A : Type 0} (b : Bool) (x y : A) → (if b then Some x else None) ≡ Some y → x ≡ y
-choice-same true x y e = cc
-choice-same false x y e = cc
-
-none-of : (config found : Config) → config.clients ≡ [] → in_limits config ≡ Some found → found.clients ≡ []
-none-of config found none e =
-    let same = choice-same (are_settings_in_limits config) config found e in
-    ap (λ (c : Config). c.clients) (sym same) ∙ none
-
-settings-without : (words : List (List ℕ)) (config : Config) → settings_of words ≡ Some config → config.clients ≡ []
-settings-without (host ∷ realm ∷ home ∷ address ∷ boot ∷ retention ∷ capacity ∷ backlog ∷ watchdog ∷ []) config e =
-    let (a, _, e1) = bind-some (address_word address) _ config e in
-    let (b, _, e2) = bind-some (number_word 4294967295 boot) _ config e1 in
-    let (r, _, e3) = bind-some (number_word 18446744073709551615 retention) _ config e2 in
-    let (c, _, e4) = bind-some (number_word 4294967295 capacity) _ config e3 in
-    let (l, _, e5) = bind-some (number_word 4294967295 backlog) _ config e4 in
-    let (w, _, e6) = bind-some (number_word 18446744073709551615 watchdog) _ config e5 in
-    none-of _ config refl e6
-settings-without words config e = cc
-
-agent-without : (line : List ℕ) (config : Config) → agent_line line ≡ Some config → config.clients ≡ []
-agent-without line config e =
-    let (words, _, e1) = bind-some (words_after (codes "agent") (words_of line)) _ config e in
-    settings-without words config e1
 
 -- ---- each line has the next number
 
@@ -75,7 +43,7 @@ client-numbered config (Some client) event s e =
     ap (λ (t : Step). line_number t.0) (sym same) ∙ omega (arith, more)
 
 next-numbered : (stage : Stage) (line : List ℕ) → Numbered stage (step stage line)
-next-numbered Start line = first-numbered (agent_line line) (agent-without line)
+next-numbered Start line = first-numbered (agent_line line) (λ config e. let bare = agent-bare line config e in bare.clients)
 next-numbered (Clients config) line = client-numbered config (client_line config line) (event_line line)
 next-numbered (Events config ps) line = event-numbered (Events config ps) config ps (event_line line) refl
 
