@@ -37,6 +37,14 @@ fn words_after_name(rt: &HostRuntime) -> io::Result<Vec<String>> {
     Ok(words)
 }
 
+/// How a run ends whose words can't be had: one that isn't UTF-8 is no command's, and else memory is wanting.
+fn status_without_words(error: &io::Error) -> Status {
+    match error.kind() {
+        io::ErrorKind::InvalidData => Status::Usage,
+        _ => Status::OutOfMemory,
+    }
+}
+
 /// Says on stderr how a run ended that wasn't done, and gives the status to exit with.
 fn end(rt: &HostRuntime, status: Status) -> ExitCode {
     if status != Status::Done {
@@ -46,8 +54,9 @@ fn end(rt: &HostRuntime, status: Status) -> ExitCode {
 }
 
 fn main(rt: HostRuntime) -> ExitCode {
-    let Ok(words) = words_after_name(&rt) else {
-        return end(&rt, Status::OutOfMemory);
+    let words = match words_after_name(&rt) {
+        Ok(words) => words,
+        Err(error) => return end(&rt, status_without_words(&error)),
     };
     if let [word] = words.as_slice() {
         let text = match word.as_str() {
