@@ -3,7 +3,7 @@ use Rattle.std.proofs.Common.{◌≡◌, ℕ, ◌+◌, ◌*◌, ◌/◌, ◌%◌
 use Rattle.std.proofs.Math.Seq.{drop-cons}
 use Rattle.std.proofs.lemmas.List.Sums.{fold-append}
 use Rattle.std.specs.Int.{w16, w32, w64, to_be_bytes}
-use Rattle.wire_core.specs.Numbers.{u16, u24, u32, u64, number, octets_at}
+use Rattle.wire_core.specs.Numbers.{u16, u24, u32, u64, number, octets_at, NumbersAreReadBack}
 
 -- one more octet at a place
 octets_at-more : (xs : List ℕ) (place next count : ℕ) → place < length xs → next ≡ place + 1 → octets_at xs place (count + 1) ≡ get_or xs place 0 ∷ octets_at xs next count
@@ -113,6 +113,32 @@ fold-from a (x ∷ y ∷ z ∷ w ∷ v ∷ rest) e = absurd (omega arith)
 pub number-append : (xs ys : List ℕ) → length ys ≡ 4 → number (xs ++ ys) ≡ number xs * 4294967296 + number ys
 unfolding number
 number-append xs ys e = fold-append (λ n x. n * 256 + x) 0 xs ys ∙ fold-from _ ys e
+
+-- eight octets are four of the high half and four of the low half
+u64-halves : (n : ℕ) → n < 2 ^ 64 → u64 n ≡ u32 (n / 4294967296) ++ u32 (n % 4294967296)
+unfolding u32 u64
+u64-halves n fits =
+    let a : n / 4294967296 / 16777216 % 256 ≡ n / 72057594037927936 % 256 = omega arith in
+    let b : n / 4294967296 / 65536 % 256 ≡ n / 281474976710656 % 256 = omega arith in
+    let c : n / 4294967296 / 256 % 256 ≡ n / 1099511627776 % 256 = omega arith in
+    let d : n % 4294967296 / 16777216 % 256 ≡ n / 16777216 % 256 = omega arith in
+    let e : n % 4294967296 / 65536 % 256 ≡ n / 65536 % 256 = omega arith in
+    let f : n % 4294967296 / 256 % 256 ≡ n / 256 % 256 = omega arith in
+    let g : n % 4294967296 % 256 ≡ n % 256 = omega arith in
+    rw (a, b, c, d, e, f, g) refl
+
+pub number-u64 : (n : ℕ) → n < 2 ^ 64 → number (u64 n) ≡ n
+number-u64 n fits =
+    let high : n / 4294967296 < 2 ^ 32 = omega arith in
+    let low : n % 4294967296 < 2 ^ 32 = omega arith in
+    ap number (u64-halves n fits)
+    ∙ number-append (u32 (n / 4294967296)) (u32 (n % 4294967296)) (length-u32 _)
+    ∙ ap (λ m. m * 4294967296 + number (u32 (n % 4294967296))) (number-u32 (n / 4294967296) high)
+    ∙ ap (λ m. n / 4294967296 * 4294967296 + m) (number-u32 (n % 4294967296) low)
+    ∙ omega arith
+
+pub numbers_are_read_back : NumbersAreReadBack
+numbers_are_read_back = record { in_two = number-u16; in_three = number-u24; in_four = number-u32; in_eight = number-u64 }
 
 -- what std calls the big-endian bytes of a number
 pub to_be_bytes-16 : (n : ℕ) → to_be_bytes w16 n ≡ u16 n

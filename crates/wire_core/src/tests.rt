@@ -41,14 +41,23 @@ fn octets_and_names(rt: HostRuntime) -> Result<(), Fail> {
     Ok(())
 }
 
-// Each call fails, is interrupted or moves one octet, by its number.
+// Each call fails, is interrupted or moves one octet, by its number. The second flush fails.
 #[derive(Drop)]
 struct Flaky {
     calls: u8,
+    flushes: u8,
     octet: u8,
 }
 
 impl Flaky {
+    fn new(octet: u8) -> Flaky {
+        Flaky {
+            calls: 0,
+            flushes: 0,
+            octet,
+        }
+    }
+
     fn call(&mut self) -> io::Result<usize> {
         self.calls = self.calls.saturating_add(1);
         match self.calls {
@@ -74,7 +83,11 @@ impl Write for Flaky {
     }
 
     fn flush(&mut self) -> io::Result<()> {
-        Ok(())
+        self.flushes = self.flushes.saturating_add(1);
+        match self.flushes {
+            2 => Err(io::Error::from(ErrorKind::BrokenPipe)),
+            _ => Ok(()),
+        }
     }
 }
 
@@ -126,10 +139,7 @@ fn writes_without_a_fault(rt: HostRuntime) -> Result<(), Fail> {
 
 #[test]
 fn reads_of_a_reader(rt: HostRuntime) {
-    let mut input = ReaderSource::new(Flaky {
-        calls: 0,
-        octet: b'a',
-    });
+    let mut input = ReaderSource::new(Flaky::new(b'a'));
     let mut buf = [0; 2];
     assert_eq!(rt; next(&mut input, &mut buf), Got::Bytes(1));
     assert_eq!(rt; buf, *b"a\0");
@@ -142,8 +152,10 @@ fn writes_of_a_writer(rt: HostRuntime) -> Result<(), Fail> {
     let mut text = Vec::new(rt.alloc());
     assert_eq!(rt; put(&mut WriterSink::new(&mut text), b"ab"), Put::Done);
     assert_eq!(rt; text.as_slice(), b"ab".as_slice());
-    let mut output = WriterSink::new(Flaky { calls: 0, octet: 0 });
+    // a write, a write whose flush fails, and a write that fails
+    let mut output = WriterSink::new(Flaky::new(0));
     assert_eq!(rt; put(&mut output, b"a"), Put::Done);
+    assert_eq!(rt; put(&mut output, b""), Put::Failed);
     assert_eq!(rt; put(&mut output, b"b"), Put::Failed);
     Ok(())
 }
