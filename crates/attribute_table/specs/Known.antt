@@ -33,6 +33,7 @@ known_codes =
     ∷ 294  -- Error-Reporting-Host
     ∷ 296  -- Origin-Realm
     ∷ 297  -- Experimental-Result
+    ∷ 401  -- Tunneling
     ∷ 408  -- Origin-AAA-Protocol
     ∷ 462  -- EAP-Payload
     ∷ 465  -- Accounting-EAP-Auth-Method

@@ -9,9 +9,9 @@ use crate::row::row_of_avp;
 const MICROSOFT: u32 = 311;
 
 /// The AVPs that are known and that no row copies, in the order of the definition, which names them.
-const KNOWN: [u32; 32] = [
+const KNOWN: [u32; 33] = [
     24, 29, 33, 258, 259, 260, 263, 264, 268, 270, 271, 272, 274, 276, 277, 278, 279, 281, 282,
-    284, 285, 287, 291, 294, 296, 297, 408, 462, 465, 480, 483, 485,
+    284, 285, 287, 291, 294, 296, 297, 401, 408, 462, 465, 480, 483, 485,
 ];
 
 /// Whether an AVP with this code and the V flag clear is known, with a row or without.

@@ -91,13 +91,15 @@ fn table(rt: HostRuntime) -> Result<(), Fail> {
 
 #[test]
 fn known(rt: HostRuntime) {
-    for code in [24, 29, 33, 258, 263, 297, 408, 462, 485, 1, 25, 27, 100] {
+    for code in [
+        24, 29, 33, 258, 263, 297, 401, 408, 462, 485, 1, 25, 27, 100,
+    ] {
         assert!(rt; is_known(code), "{code}");
     }
-    for code in [0, 2, 26, 79, 69, 102, 257, 280, 283, 401, 402, 464, 65_559] {
+    for code in [0, 2, 26, 79, 69, 102, 257, 280, 283, 400, 402, 464, 65_559] {
         assert!(rt; !is_known(code), "{code}");
     }
-    assert_eq!(rt; (0..1000).filter(|code| is_known(*code)).count(), 47 + 32);
+    assert_eq!(rt; (0..1000).filter(|code| is_known(*code)).count(), 47 + 33);
 }
 
 #[test]

@@ -59,3 +59,7 @@ plain_blocks secret authenticator hidden (suc i) =
 
 abbrev pub plain_form : List ℕ → List ℕ → List ℕ → List ℕ
 plain_form secret authenticator hidden = trimmed (plain_blocks secret authenticator hidden (length hidden / 16))
+
+-- what hidden octets hide is the password that they were made of, without the zeros at its end (section 5.2)
+abbrev pub HiddenPasswordsComeBack : Type 0
+HiddenPasswordsComeBack = (secret authenticator password hidden : List ℕ) → Hides secret authenticator password hidden → plain_form secret authenticator hidden ≡ trimmed password

@@ -1,7 +1,7 @@
 //! Laws of hiding.
 
 ghost use Rattle.std.specs.Prelude.{◌≡◌, ◌≢◌, ℕ, ◌-◌, ◌≤◌, List, [], ◌∷◌, ◌++◌, length, replicate, IsTrue};
-ghost use Rattle.password_hiding.specs.Hiding.{Hides, is_hidden_length, padded_length, trimmed};
+ghost use Rattle.password_hiding.specs.Hiding.{Hides, is_hidden_length, padded_length, trimmed, HiddenPasswordsComeBack};
 
 /// A password has one hidden form at most.
 pub fn one_hidden_form()
@@ -11,6 +11,11 @@ pub fn one_hidden_form()
 /// Hidden octets hide one password at most.
 pub fn one_plain_form()
     ensures { (secret authenticator hidden plain other : List ℕ) → Hides secret authenticator plain hidden → Hides secret authenticator other hidden → plain ≡ other }
+{}
+
+/// What is unhidden is the password that was hidden, without the zeros at its end.
+pub fn hidden_passwords_come_back()
+    ensures { HiddenPasswordsComeBack }
 {}
 
 /// A password is padded to the least length of hidden octets that has room for it.

@@ -8,6 +8,7 @@ ghost use Rattle.radius_packet.specs.Seals.{response_authenticator};
 ghost use Rattle.radius_packet.specs.Checks.{IsAccountingRight, is_accounting_right, is_seal, IsSealRight, seal_of, seal_place, SealAt};
 
 use crate::attribute_list::Attributes;
+use crate::digests::are_equal;
 use crate::received::Packet;
 use crate::sizes::{HEADER, SEAL};
 use hmac_md5::Hmac;
@@ -81,7 +82,7 @@ fn test_seal(octets: &[u8], place: usize, secret: &[u8]) -> Seal
         return Seal::Wrong;
     }
     let value = &octets[place + 2..place + 18];
-    if value == seal_with_zeros(octets, place + 2, secret).as_slice() {
+    if are_equal(value, &seal_with_zeros(octets, place + 2, secret)) {
         Seal::Right
     } else {
         Seal::Wrong
@@ -94,7 +95,8 @@ impl<'a> Packet<'a> {
         ensures exact { result ≡ is_accounting_right secret.now (packet_text self.now) }
         ensures right { IsTrue result ↔ IsAccountingRight secret.now (packet_text self.now) }
     {
-        self.authenticator() == authenticator_with(self.whole(), &[0; 16], secret)
+        let right = authenticator_with(self.whole(), &[0; 16], secret);
+        are_equal(&self.authenticator(), &right)
     }
 
     /// What the Message-Authenticator says under this secret (RFC 3579, section 3.2).

@@ -4,6 +4,7 @@
 mod answering;
 mod attribute_list;
 mod checking;
+mod digests;
 mod fault;
 pub mod laws;
 mod reasons;

@@ -1,4 +1,4 @@
-use Rattle.std.proofs.Common.{◌≡◌, ℕ, ◌+◌, ◌-◌, Bool, false, cond, List, ◌++◌, length, take, drop, replicate, ap, sym, ◌∙◌, arith}
+use Rattle.std.proofs.Common.{◌≡◌, ℕ, ◌+◌, ◌-◌, Bool, false, cond, List, ◌++◌, length, take, drop, replicate, ap, sym, ◌∙◌, refl, arith}
 use Rattle.std.specs.Prelude.{nat_eq}
 use Rattle.std.specs.List.{list_any}
 use Rattle.std.specs.Cmp.Lexicographic.{pointwise}
@@ -82,16 +82,16 @@ said octets value with_zeros secret p place count s b none size e same is found 
     ∙ ap (λ (xs : List ℕ). pointwise nat_eq (octets_at octets (place + 2) 16) xs) (same ∙ is ∙ ap (λ (n : ℕ). hmac_of secret (take (place + 2) octets ++ replicate 16 0 ++ drop n octets)) at))
     ∙ alone secret octets p place s none size
 
-pub returns-then-eq : goal.returns-then-eq
-returns-then-eq c = λ p s.
+pub returns-then-are_equal : goal.returns-then-are_equal
+returns-then-are_equal c = λ p s.
     let octet = size_at _ _ _ s in
-    ap (λ (b : Bool). cond b Right Wrong) (sym c.if-eq.true)
-    ∙ said c.args.octets.now c.as_slice.result.now c.seal_with_zeros.result c.args.secret.now p c.args.place _ s c.eq.result (none_after _ p _ _ s octet c.has_seal.result c.if-has_seal.false c.has_seal.ensures)
-    (sixteen c.args.place _ _ octet c.if-end-place.false) (omega arith) c.as_slice.ensures c.seal_with_zeros.ensures c.eq.ensures
+    ap (λ (b : Bool). cond b Right Wrong) (sym c.if-are_equal.true)
+    ∙ said c.args.octets.now c.seal_with_zeros.result c.seal_with_zeros.result c.args.secret.now p c.args.place _ s c.are_equal.result (none_after _ p _ _ s octet c.has_seal.result c.if-has_seal.false c.has_seal.ensures)
+    (sixteen c.args.place _ _ octet c.if-end-place.false) (omega arith) refl c.seal_with_zeros.ensures c.are_equal.ensures
 
-pub returns-else-eq : goal.returns-else-eq
-returns-else-eq c = λ p s.
+pub returns-else-are_equal : goal.returns-else-are_equal
+returns-else-are_equal c = λ p s.
     let octet = size_at _ _ _ s in
-    ap (λ (b : Bool). cond b Right Wrong) (sym c.if-eq.false)
-    ∙ said c.args.octets.now c.as_slice.result.now c.seal_with_zeros.result c.args.secret.now p c.args.place _ s c.eq.result (none_after _ p _ _ s octet c.has_seal.result c.if-has_seal.false c.has_seal.ensures)
-    (sixteen c.args.place _ _ octet c.if-end-place.false) (omega arith) c.as_slice.ensures c.seal_with_zeros.ensures c.eq.ensures
+    ap (λ (b : Bool). cond b Right Wrong) (sym c.if-are_equal.false)
+    ∙ said c.args.octets.now c.seal_with_zeros.result c.seal_with_zeros.result c.args.secret.now p c.args.place _ s c.are_equal.result (none_after _ p _ _ s octet c.has_seal.result c.if-has_seal.false c.has_seal.ensures)
+    (sixteen c.args.place _ _ octet c.if-end-place.false) (omega arith) refl c.seal_with_zeros.ensures c.are_equal.ensures
