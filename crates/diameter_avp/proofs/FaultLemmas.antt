@@ -1,6 +1,7 @@
 -- The fault that reading finds is the one that stands at its place.
-use Rattle.std.proofs.Common.{◌≡◌, ℕ, zero, suc, ◌+◌, ◌<◌, ◌≤◌, ◌⊎◌, inl, inr, Bool, true, false, cond, List, [], ◌∷◌, ◌++◌, length, take, drop, Option, Some, None, Result, Ok, Err, refl, sym, ap, subst, ◌∙◌, append_assoc, arith}
+use Rattle.std.proofs.Common.{◌≡◌, ℕ, zero, suc, ◌+◌, ◌<◌, ◌≤◌, ◌⊎◌, inl, inr, Bool, true, false, cond, List, [], ◌∷◌, ◌++◌, map, length, take, drop, Option, Some, None, Result, Ok, Err, refl, sym, ap, subst, ◌∙◌, append_assoc, arith}
 use Rattle.std.specs.Prelude.{nat_lt}
+use Rattle.std.specs.Result.{ok_prefix}
 use Rattle.std.proofs.lemmas.Bool.{ltb-true, ltb-false, lt-ltb, le-ltb}
 use Rattle.std.proofs.lemmas.List.{length-append, length-drop, length-take-le, take-append-drop, drop-drop, take_at, drop_at}
 use Rattle.std.proofs.lemmas.List.Elements.{All-drop}
@@ -8,8 +9,8 @@ use Rattle.std.proofs.Math.Seq.{take-append-add}
 use Rattle.wire_core.specs.Numbers.{AreOctets}
 use Rattle.diameter_avp.specs.declared.fault.AvpFault.{AvpFault}
 use Rattle.diameter_avp.specs.declared.fault.AvpFault.TheVariants.{Short, BadLength}
-use Rattle.diameter_avp.specs.Avps.{AvpParts, header_length, vendor_of, length_of, span, bare_text, BeginsWith, IsAvps, read_avp, items_at, avp_items, fault_of, avps_fault}
-use Rattle.diameter_avp.specs.Faults.{Reaches, HasBadLength, IsFault}
+use Rattle.diameter_avp.specs.Avps.{AvpParts, readable_avps, header_length, vendor_of, length_of, span, bare_text, BeginsWith, IsAvps, read_avp, items_at, avp_items, fault_of, avps_fault}
+use Rattle.diameter_avp.specs.Faults.{Reaches, HasBadLength, HoldUpTo, IsFault, place_of}
 use Rattle.diameter_avp.proofs.ItemLemmas.{Reads-from_ok, span-least, items_at-none, items_at-ok, items_at-err}
 use Rattle.diameter_avp.proofs.TextLemmas.{BeginsWith-from_Reads, ReadsFront-from_BeginsWith}
 
@@ -134,14 +135,15 @@ module _ (fault : AvpFault) where
       (λ least rest. fails-from m (place + span o) (drop (span o) o) (omega (arith, length-drop (span o) o)) (All-drop (λ y. y < 256) (span o) o are) rest)
       found
 
-  found-at : (before : List AvpParts) (place : ℕ) (octets : List ℕ) (step : ℕ) → IsAvps (take step octets) before → step ≤ length octets → 0 < length (drop step octets) → read_avp (place + step) (drop step octets) ≡ Err fault → fault_of (items_at place octets) ≡ Some fault
+  -- AVPs up to a place, and what can't be read there
+  items-up_to : (before : List AvpParts) (place : ℕ) (octets : List ℕ) (step : ℕ) → IsAvps (take step octets) before → step ≤ length octets → 0 < length (drop step octets) → read_avp (place + step) (drop step octets) ≡ Err fault → items_at place octets ≡ map (λ a. Ok a) before ++ Err fault ∷ []
   unfolding IsAvps
-  found-at [] place octets step is inside some fails =
+  items-up_to [] place octets step is inside some fails =
       let none : step ≡ 0 = omega (arith, ap length is, length-take-le step octets inside) in
       let here : read_avp (place + 0) octets ≡ Err fault = subst (λ (k : ℕ). read_avp (place + k) (drop k octets) ≡ Err fault) none fails in
       let at : read_avp place octets ≡ Err fault = ap (λ (k : ℕ). read_avp k octets) (let p : place ≡ place + 0 = omega arith in p) ∙ here in
-      ap fault_of (items_at-err place octets fault (omega (arith, length-drop step octets)) at)
-  found-at (a ∷ before) place octets step is inside some fails =
+      items_at-err place octets fault (omega (arith, length-drop step octets)) at
+  items-up_to (a ∷ before) place octets step is inside some fails =
       let rest = is.0 in
       let tail = drop step octets in
       let text : octets ≡ bare_text a ++ is.1.pad ++ (rest ++ tail) =
@@ -156,8 +158,10 @@ module _ (fault : AvpFault) where
       let behind = drop_at rest tail (length rest) refl in
       let fails' : read_avp (place + n + length rest) (drop (length rest) (rest ++ tail)) ≡ Err fault =
       ap (λ (k : ℕ). read_avp k (drop (length rest) (rest ++ tail))) sum ∙ ap (λ (o : List ℕ). read_avp (place + step) o) behind ∙ fails in
-      let r = found-at before (place + n) (rest ++ tail) (length rest) avps (omega (arith, length-append rest tail)) (subst (λ (o : List ℕ). 0 < length o) (sym behind) some) fails' in
-      ap fault_of (items_at-ok place octets a front.read) ∙ ap (λ (o : List ℕ). fault_of (items_at (place + n) o)) front.left ∙ r
+      let r = items-up_to before (place + n) (rest ++ tail) (length rest) avps (omega (arith, length-append rest tail)) (subst (λ (o : List ℕ). 0 < length o) (sym behind) some) fails' in
+      items_at-ok place octets a front.read
+      ∙ ap (λ (o : List ℕ). Ok a ∷ items_at (place + n) o) front.left
+      ∙ ap (λ (items : List (Result AvpParts AvpFault)). Ok a ∷ items) r
 
 -- ---- the laws
 
@@ -175,11 +179,40 @@ IsFault-from_found octets fault are found =
     let f = fails-from fault (length octets) 0 octets (omega arith) are found in
     fault-stands octets fault f.step f.reaches f.some (Wrong-from_err (drop f.step octets) (0 + f.step) fault f.fails)
 
-pub found-from_IsFault : (octets : List ℕ) (fault : AvpFault) → IsFault octets fault → avps_fault octets ≡ Some fault
+fails-there : (octets : List ℕ) (fault : AvpFault) → IsFault octets fault → (0 < length (drop (place_of fault) octets)) × (read_avp (0 + place_of fault) (drop (place_of fault) octets) ≡ Err fault)
+fails-there octets (Short p) is =
+    let at : 0 + p ≡ p = omega arith in
+    (is.1, ap (λ (k : ℕ). read_avp k (drop p octets)) at ∙ err-short (drop p octets) p is.2)
+fails-there octets (BadLength p) is =
+    let at : 0 + p ≡ p = omega arith in
+    (omega (arith, is.1), ap (λ (k : ℕ). read_avp k (drop p octets)) at ∙ err-length (drop p octets) p is.1 is.2)
+
+reaches-fault : (octets : List ℕ) (fault : AvpFault) → IsFault octets fault → Reaches octets (place_of fault)
+reaches-fault octets (Short p) is = is.0
+reaches-fault octets (BadLength p) is = is.0
+
+pub HoldUpTo-from_IsFault : (octets : List ℕ) (fault : AvpFault) → IsFault octets fault → HoldUpTo octets fault (avp_items octets)
 unfolding avp_items
-found-from_IsFault octets (Short p) is =
-    let at : 0 + p ≡ p = omega arith in
-    found-at (Short p) is.0.before 0 octets p is.0.avps is.0.inside is.1 (ap (λ (k : ℕ). read_avp k (drop p octets)) at ∙ err-short (drop p octets) p is.2)
-found-from_IsFault octets (BadLength p) is =
-    let at : 0 + p ≡ p = omega arith in
-    found-at (BadLength p) is.0.before 0 octets p is.0.avps is.0.inside (omega (arith, is.1)) (ap (λ (k : ℕ). read_avp k (drop p octets)) at ∙ err-length (drop p octets) p is.1 is.2)
+HoldUpTo-from_IsFault octets fault is =
+    let r = reaches-fault octets fault is in
+    let f = fails-there octets fault is in
+    record { before = r.before; avps = r.avps; held = items-up_to fault r.before 0 octets (place_of fault) r.avps r.inside f.0 f.1 }
+
+fault_of-up_to : (before : List AvpParts) (fault : AvpFault) → fault_of (map (λ a. Ok a) before ++ Err fault ∷ []) ≡ Some fault
+fault_of-up_to [] fault = refl
+fault_of-up_to (a ∷ before) fault = fault_of-up_to before fault
+
+ok_prefix-up_to : (before : List AvpParts) (fault : AvpFault) → ok_prefix (map (λ a. Ok a) before ++ Err fault ∷ []) ≡ before
+ok_prefix-up_to [] fault = refl
+ok_prefix-up_to (a ∷ before) fault = ap (λ (others : List AvpParts). a ∷ others) (ok_prefix-up_to before fault)
+
+pub found-from_IsFault : (octets : List ℕ) (fault : AvpFault) → IsFault octets fault → avps_fault octets ≡ Some fault
+found-from_IsFault octets fault is =
+    let h = HoldUpTo-from_IsFault octets fault is in
+    ap fault_of h.held ∙ fault_of-up_to h.before fault
+
+pub IsAvps-before_fault : (octets : List ℕ) (fault : AvpFault) → IsFault octets fault → IsAvps (take (place_of fault) octets) (readable_avps octets)
+IsAvps-before_fault octets fault is =
+    let h = HoldUpTo-from_IsFault octets fault is in
+    let e : readable_avps octets ≡ h.before = ap (λ (items : List (Result AvpParts AvpFault)). ok_prefix items) h.held ∙ ok_prefix-up_to h.before fault in
+    subst (λ (avps : List AvpParts). IsAvps (take (place_of fault) octets) avps) (sym e) h.avps

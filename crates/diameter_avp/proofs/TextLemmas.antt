@@ -235,6 +235,10 @@ ok_prefix-all_ok : (avps : List AvpParts) → ok_prefix {E = AvpFault} (map (λ 
 ok_prefix-all_ok [] = refl
 ok_prefix-all_ok (a ∷ avps) = ap (λ (others : List AvpParts). a ∷ others) (ok_prefix-all_ok avps)
 
+pub avp_items-IsAvps : (octets : List ℕ) (avps : List AvpParts) → IsAvps octets avps → avp_items octets ≡ map (λ a. Ok a) avps
+unfolding avp_items
+avp_items-IsAvps octets avps is = items_at-IsAvps 0 octets avps is
+
 pub avps_fault-IsAvps : (octets : List ℕ) (avps : List AvpParts) → IsAvps octets avps → avps_fault octets ≡ None
 unfolding avp_items
 avps_fault-IsAvps octets avps is = rw (items_at-IsAvps 0 octets avps is) (fault_of-all_ok avps)

@@ -74,6 +74,23 @@ fn reads_each_avp(rt: HostRuntime) {
 }
 
 #[test]
+fn ends_at_a_fault(rt: HostRuntime) {
+    // Two AVPs, one whose length is below its header's, and one that could be read.
+    let octets = b"\x00\x00\x01\x02\x40\x00\x00\x0c\x00\x00\x00\x01\
+        \x00\x00\x00\x01\x40\x00\x00\x0b\x6e\x65\x6d\x00\
+        \x00\x00\x01\x0c\x40\x00\x00\x07\
+        \x00\x00\x01\x0c\x40\x00\x00\x0c\x00\x00\x07\xd1";
+    let mut items = avps(octets);
+    assert!(rt; matches!(items.next(), Some(Ok(avp)) if avp.code == 258));
+    assert!(rt;
+        matches!(items.next(), Some(Ok(avp)) if avp.code == 1 && avp.body == b"nem".as_slice())
+    );
+    assert!(rt; matches!(items.next(), Some(Err(AvpFault::BadLength { place: 24 }))));
+    assert!(rt; items.next().is_none());
+    assert!(rt; items.next().is_none());
+}
+
+#[test]
 fn names_the_first_fault(rt: HostRuntime) {
     let cases: [(&[u8], Result<(), AvpFault>); 11] = [
         (b"", Ok(())),

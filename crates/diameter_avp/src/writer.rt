@@ -50,8 +50,9 @@ impl Model for Group {
 
 /// A list of AVPs in the making, behind octets that it began with. Contracts see both.
 ///
-/// A group that is open is an AVP without a body, and what is put after it will be its members:
-/// `end_group` takes them into its body. So a group inside a group is ended before the outer one.
+/// A group that is open is an AVP without a body, and `end_group` takes what was put after it into its
+/// body. A group inside a group is to be ended first: once the outer one was ended, the inner one stays
+/// without a body, and what was put in it stands behind it. So does a group that is open at `finish`.
 #[derive(Drop)]
 pub struct AvpWriter {
     octets: Vec<u8>,
@@ -118,7 +119,8 @@ impl AvpWriter {
         Ok(Group { place })
     }
 
-    /// Ends the innermost group: all that was put since it began becomes its body.
+    /// Ends a group: all that was put since it began becomes its body. A group inside it that is still
+    /// open can't be ended any more.
     pub fn end_group(&mut self, group: Group)
         requires { (g : GroupParts) × IsOpen self.old.list group g }
         ensures { (g : GroupParts) → IsOpen self.old.list group g
