@@ -1,0 +1,4 @@
+pub mod Checking
+pub mod Groups
+pub mod Tagged
+pub mod Views

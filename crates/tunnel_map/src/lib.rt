@@ -1,0 +1,12 @@
+//! The tagged attributes of tunnels (RFC 2868) as groups of AVPs (RFC 4005, section 7), both ways.
+#![tactic(auto)]
+
+mod checking;
+mod fault;
+mod kind;
+mod member;
+mod tagged;
+
+pub use checking::check_group;
+pub use fault::TunnelFault;
+pub use tagged::{Tagged, tag_of};
