@@ -6,8 +6,8 @@ use Rattle.diameter_avp.specs.declared.fault.AvpFault.{AvpFault}
 use Rattle.diameter_avp.specs.Avps.{AvpParts, avps_fault, readable_avps, read_avps, is_mandatory}
 use Rattle.diameter_avp.proofs.CallerLemmas.{read_avps-none, read_avps-some}
 use Rattle.tunnel_map.specs.declared.fault.TunnelFault.{TunnelFault}
-use Rattle.tunnel_map.specs.declared.fault.TunnelFault.TheVariants.{Rotten, Unknown, BadSize}
-use Rattle.tunnel_map.specs.Groups.{first_code, is_unknown, has_bad_size, list_fault}
+use Rattle.tunnel_map.specs.declared.fault.TunnelFault.TheVariants.{Rotten, Unknown, BadSize, TooMany}
+use Rattle.tunnel_map.specs.Groups.{first_code, is_unknown, has_bad_size, list_fault, group_fault}
 use Rattle.tunnel_map.specs.Checking.{own_code}
 
 step-by : (found : Option ℕ) (a : AvpParts) (b : Bool) (rest : Option AvpParts)
@@ -43,3 +43,22 @@ fault-found octets left unknown bad_size whole none e f =
     let u = sym (or-none unknown) ∙ rw none at e in
     let s = sym (or-none bad_size) ∙ rw none at f in
     rw (u, s) (sym (ap list_fault (read_avps-none octets whole)))
+
+-- ---- a group without a fault
+
+no_fault : (many : Bool) (rest : Option TunnelFault) → cond many (Some TooMany) rest ≡ None → (many ≡ false) × (rest ≡ None)
+no_fault true rest e = absurd cc
+no_fault false rest e = (refl, e)
+
+some≢none : (let rotten : Option TunnelFault = Some Rotten in let none : Option TunnelFault = None in rotten ≡ none) → ⊥
+some≢none e = cc
+
+whole-by : (octets : List ℕ) (fault : Option AvpFault) → avps_fault octets ≡ fault → list_fault (read_avps octets) ≡ None → avps_fault octets ≡ None
+whole-by octets None e none = e
+whole-by octets (Some fault) e none =
+    let rotten = fault-rotten octets fault e in
+    absurd (some≢none (rotten ∙ none))
+
+-- its body is a list of AVPs
+pub whole-accepted : (tag : ℕ) (octets : List ℕ) → group_fault tag octets ≡ None → avps_fault octets ≡ None
+whole-accepted tag octets e = whole-by octets (avps_fault octets) refl (no_fault _ _ e).1

@@ -1,4 +1,6 @@
 pub mod Checking
 pub mod Groups
+pub mod Pushing
 pub mod Tagged
 pub mod Views
+pub mod Writing

@@ -5,8 +5,12 @@ mod checking;
 mod fault;
 mod kind;
 mod member;
+mod pushing;
 mod tagged;
+mod writing;
 
 pub use checking::check_group;
 pub use fault::TunnelFault;
+pub use pushing::push_group;
 pub use tagged::{Tagged, tag_of};
+pub use writing::write_group;
