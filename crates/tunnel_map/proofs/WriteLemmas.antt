@@ -28,10 +28,18 @@ pub length-opened : (w : WriterParts) (avps : List AvpParts) → length (avps_te
 length-opened w avps =
     let empty : AvpParts = made 401 None true [] in
     let whole : AvpParts = made 401 None true (avps_text avps) in
-    omega (arith,
-      ap length (avps_text-append (w.list ++ empty ∷ []) avps), length-append (avps_text (w.list ++ empty ∷ [])) (avps_text avps),
-      ap length (avps_text-push w.list empty), length-append (avps_text w.list) (avp_text empty), length-avp_text empty,
-      ap length (avps_text-push w.list whole), length-append (avps_text w.list) (avp_text whole), length-avp_text whole, length-avps_text avps)
+    omega (
+      arith,
+      ap length (avps_text-append (w.list ++ empty ∷ []) avps),
+      length-append (avps_text (w.list ++ empty ∷ [])) (avps_text avps),
+      ap length (avps_text-push w.list empty),
+      length-append (avps_text w.list) (avp_text empty),
+      length-avp_text empty,
+      ap length (avps_text-push w.list whole),
+      length-append (avps_text w.list) (avp_text whole),
+      length-avp_text whole,
+      length-avps_text avps,
+    )
 
 -- what is too long already with some of its members is too long with all
 pub too_long-part : (w mid : WriterParts) (some rest avps : List AvpParts) → with_avps mid (some ++ rest) ≡ with_avps (opened w) avps → 65516 < length (avps_text (with_avps mid some).list) → 65516 < length (avps_text (with_avp w (made 401 None true (avps_text avps))).list)

@@ -4,6 +4,7 @@
 mod checking;
 mod fault;
 mod kind;
+pub mod laws;
 mod member;
 mod pushing;
 mod tagged;

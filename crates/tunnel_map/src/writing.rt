@@ -15,11 +15,7 @@ use radius_packet::{Attribute, Packet};
 const TUNNELING: u32 = 401;
 
 /// Puts the member of an attribute at the end, where the attribute has this tag.
-fn put_member(
-    out: &mut AvpWriter,
-    attribute: &Attribute<'_>,
-    tag: u8,
-) -> Result<(), WriteFault>
+fn put_member(out: &mut AvpWriter, attribute: &Attribute<'_>, tag: u8) -> Result<(), WriteFault>
     ensures ok { OnOk result (out.new ≡ with_avps out.old (members tag (attribute_view attribute.now ∷ []))) }
     ensures too_long { result ≡ Err WriteFault.TooLong
         → 65516 < length (avps_text (with_avps out.old (members tag (attribute_view attribute.now ∷ []))).list) }

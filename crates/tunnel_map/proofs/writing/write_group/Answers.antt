@@ -15,8 +15,8 @@ pub returns-in_err-group-clause-too_long : goal.returns-in_err-group-clause-too_
 returns-in_err-group-clause-too_long c =
     let p = err_from_is_err_and c.from_residual.result c.from_residual.ensures.1 in
     rw (p.1, p.2) (λ long.
-      let same : c.in_err-group.field-0.0 ≡ TooLong = cc in
-      too_long-opened c.args.out.now (members c.args.tag c.args.packet.now.attributes) (c.in_err-group.ensures.too_long.0 (ap Err same)))
+    let same : c.in_err-group.field-0.0 ≡ TooLong = cc in
+    too_long-opened c.args.out.now (members c.args.tag c.args.packet.now.attributes) (c.in_err-group.ensures.too_long.0 (ap Err same)))
 
 pub returns-in_err-put_member-clause-too_long : goal.returns-in_err-put_member-clause-too_long
 returns-in_err-put_member-clause-too_long c =
