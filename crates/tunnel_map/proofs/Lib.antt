@@ -1,0 +1,4 @@
+pub mod FaultLemmas
+pub mod PushLemmas
+pub mod RoundTripLemmas
+pub mod WriteLemmas
