@@ -91,16 +91,15 @@ fn sending(alloc: Global, octets: Octets) -> Result<Outputs, NoMemory>
 }
 
 /// One reply, to the place that the request came from.
-fn replying(alloc: Global, key: &Key, reply: &[u8]) -> Result<Outputs, NoMemory>
-    ensures { IfOk result (λ o. o ≡ history.reply_output key.now (Some reply.now)) }
+fn replying(alloc: Global, key: &Key, reply: Octets) -> Result<Outputs, NoMemory>
+    ensures { IfOk result (λ o. o ≡ history.reply_output key.now (Some reply)) }
 {
-    let octets = Octets::copy(alloc, reply)?;
     let mut outputs = Outputs::new(alloc);
     outputs.push(Output::Reply {
         via: key.via,
         address: key.address,
         port: key.port,
-        octets,
+        octets: reply,
     })?;
     Ok(outputs)
 }
@@ -113,7 +112,7 @@ fn repeated(alloc: Global, key: &Key, found: Found<'_>) -> Result<Option<Outputs
         Found::New => return Ok(None),
         Found::Waiting => dropped(alloc, Reason::Waiting)?,
         Found::Silent => dropped(alloc, Reason::Silent)?,
-        Found::Kept(reply) => replying(alloc, key, reply)?,
+        Found::Kept(reply) => replying(alloc, key, Octets::copy(alloc, reply)?)?,
     };
     Ok(Some(outputs))
 }
@@ -356,8 +355,13 @@ impl Ledger {
         let Some(reply) = reply else {
             return Ok(Heard::Says(dropped(alloc, Reason::NotYet)?));
         };
-        let outputs = replying(alloc, &entry.key, reply.as_slice())?;
-        Ok(Heard::Settles { outputs, reply })
+        // What goes out has room for the longest packet. The copy that is kept has its own size.
+        let kept = Octets::copy(alloc, reply.as_slice())?;
+        let outputs = replying(alloc, &entry.key, reply)?;
+        Ok(Heard::Settles {
+            outputs,
+            reply: kept,
+        })
     }
 
     /// What an answer leads to, by the waiting request with its number on this link.
