@@ -1,1 +1,3 @@
+pub mod Keyed
 pub mod Limits
+pub mod Twice

@@ -112,6 +112,8 @@ pub record SettingsFacts (c : Config) : Type 0 where
   pub home_realm : IsTrue (is_name c.home_realm)
   pub retention_low : 1000 ≤ c.retention
   pub retention_high : c.retention ≤ 300000
+  pub patience_low : 1000 ≤ c.patience
+  pub patience_high : c.patience ≤ 300000
   pub capacity_low : 1 ≤ c.capacity
   pub capacity_high : c.capacity ≤ 65536
   pub backlog_low : 2 ≤ c.backlog
@@ -125,10 +127,12 @@ settings_facts c h =
     let a = and_parts _ (is_between 6000 600000 c.watchdog) h in
     let b = and_parts _ (is_between 2 65536 c.backlog) a.0 in
     let d = and_parts _ (is_between 1 65536 c.capacity) b.0 in
-    let e = and_parts _ (is_between 1000 300000 c.retention) d.0 in
+    let i = and_parts _ (is_between 1000 300000 c.patience) d.0 in
+    let e = and_parts _ (is_between 1000 300000 c.retention) i.0 in
     let f = and_parts _ (is_name c.home_realm) e.0 in
     let g = and_parts (is_name c.host) (is_name c.realm) f.0 in
     let retention = between 1000 300000 c.retention e.1 in
+    let patience = between 1000 300000 c.patience i.1 in
     let capacity = between 1 65536 c.capacity d.1 in
     let backlog = between 2 65536 c.backlog b.1 in
     let watchdog = between 6000 600000 c.watchdog a.1 in
@@ -138,6 +142,8 @@ settings_facts c h =
       home_realm = f.1;
       retention_low = retention.0;
       retention_high = retention.1;
+      patience_low = patience.0;
+      patience_high = patience.1;
       capacity_low = capacity.0;
       capacity_high = capacity.1;
       backlog_low = backlog.0;

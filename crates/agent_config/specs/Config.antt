@@ -1,9 +1,11 @@
 -- Settings: what they hold, and within which limits (profile).
-use Rattle.std.specs.Prelude.{◌≡◌, ℕ, ◌<◌, ◌≤◌, Bool, ◌==◌, nat_le, ◌&&◌, not, true, List, [], ◌∷◌, ◌++◌, length, Option, None, Some, IsTrue, find, slice_get}
+use Rattle.std.specs.Prelude.{◌≡◌, ℕ, ◌+◌, ◌<◌, ◌≤◌, Bool, ◌==◌, nat_le, ◌&&◌, not, true, List, [], ◌∷◌, ◌++◌, length, take, Option, None, Some, option_map, IsTrue, find, slice_get}
 use Rattle.std.specs.List.{list_all, list_any, enumerate_from}
 use Rattle.wire_core.specs.Words.{is_identity}
 use Rattle.agent_config.specs.declared.client.Client.{Client}
 use Rattle.agent_config.specs.declared.config.Config.{Config}
+use Rattle.agent_config.specs.declared.fault.ConfigFault.{ConfigFault}
+use Rattle.agent_config.specs.declared.fault.ConfigFault.TheVariants.{TwiceAddress}
 
 -- the first client with this address, and its place
 abbrev pub find_address : ℕ → List Client → Option (ℕ × Client)
@@ -25,13 +27,21 @@ is_client_in_limits c =
 unfoldable pub are_settings_in_limits : Config → Bool
 are_settings_in_limits c =
     is_name c.host && is_name c.realm && is_name c.home_realm
-    && is_between 1000 300000 c.retention && is_between 1 65536 c.capacity
+    && is_between 1000 300000 c.retention && is_between 1000 300000 c.patience && is_between 1 65536 c.capacity
     && is_between 2 65536 c.backlog && is_between 6000 600000 c.watchdog
 
 -- no two clients have one address
 abbrev pub are_addresses_distinct : List Client → Bool
 are_addresses_distinct [] = true
 are_addresses_distinct (c ∷ cs) = not (list_any (λ d. d.address == c.address) cs) && are_addresses_distinct cs
+
+-- a client at this place, whose address an earlier one has
+abbrev pub is_second : List Client → ℕ × Client → Bool
+is_second clients p = list_any (λ c. c.address == p.1.address) (take p.0 clients)
+
+-- that two clients have one address: the number, from 1, of the first that comes second
+abbrev pub twice : List Client → Option ConfigFault
+twice clients = option_map (λ p. TwiceAddress (p.0 + 1)) (find (λ p. is_second clients p) (enumerate_from 0 clients))
 
 abbrev pub ClientInLimits : Client → Type 0
 ClientInLimits c = IsTrue (is_client_in_limits c)

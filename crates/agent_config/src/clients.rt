@@ -1,26 +1,34 @@
 //! The clients, by address.
 
-ghost use Rattle.std.specs.Prelude.{◌≡◌, ◌≤◌, [], ◌∷◌, ◌++◌, length, OnOk, OnErr, option_map};
-ghost use Rattle.agent_config.specs.Config.{find_address};
+ghost use Rattle.std.specs.Prelude.{◌≡◌, ◌≢◌, ◌≤◌, [], ◌∷◌, ◌++◌, length, slice_get, ◌<◌, None, Some, IfOk, IfErr, OnOk, OnErr, option_map};
+ghost use Rattle.agent_config.specs.Config.{find_address, twice};
+ghost use Rattle.agent_config.specs.declared.fault.ConfigFault.TheVariants as fault;
 
 use crate::client::Client;
+use crate::fault::ConfigFault;
+use indexmap::IndexMap;
 use std::alloc::Global;
 use std::marker::Model;
 use wire_core::NoMemory;
 
-/// Clients in their order. Contracts see them as the list.
+/// Clients in their order, no two with one address. Contracts see them as the list.
 #[derive(Clone, Debug, Drop)]
 pub struct Clients {
-    clients: Vec<Client>,
+    /// The key of each client is its address.
+    clients: IndexMap<u32, Client>,
 }
 
 impl Model for Clients {
     ghost use Rattle.std.specs.Prelude.{List};
+    ghost use Rattle.indexmap.specs.IndexMap.{values};
     ghost use Rattle.agent_config.specs.declared.client.Client.{Client};
+    ghost use Rattle.agent_config.specs.Keyed.{IsKeyed};
 
     ghost Value = { List Client };
 
-    ghost view = { λ c. c.clients.items };
+    ghost view = { λ c. values c.clients };
+
+    ghost invariant = { λ c. IsKeyed c.clients.entries };
 }
 
 impl Clients {
@@ -29,22 +37,27 @@ impl Clients {
         ensures { result ≡ [] }
     {
         Clients {
-            clients: Vec::new(alloc),
+            clients: IndexMap::new(alloc),
         }
     }
 
-    /// The clients of a `Vec`, which takes no memory.
-    pub fn from_vec(clients: Vec<Client>) -> Clients
-        ensures { result ≡ clients.items }
+    /// The clients of a `Vec`. `TwiceAddress` where two have one address, with the place, counted
+    /// from 1, of the first client whose address an earlier one has.
+    pub fn from_vec(alloc: Global, clients: Vec<Client>) -> Result<Clients, ConfigFault>
+        requires { length clients.items ≤ 1024 }
+        ensures ok { IfOk result (λ made. (twice clients.items ≡ None) × (made ≡ clients.items)) }
+        ensures err { IfErr result (λ e. e ≢ fault.NoMemory → twice clients.items ≡ Some e) }
     {
-        Clients { clients }
-    }
-
-    /// The clients.
-    pub fn as_slice(&self) -> &[Client]
-        ensures { result.now ≡ self.now }
-    {
-        self.clients.as_slice()
+        let mut made = Clients::new(alloc);
+        for client in clients {
+            if made.by_address(client.address).is_some() {
+                return Err(ConfigFault::TwiceAddress {
+                    client: made.len() as u32 + 1,
+                });
+            }
+            made.push(client)?;
+        }
+        Ok(made)
     }
 
     /// How many clients there are.
@@ -54,25 +67,32 @@ impl Clients {
         self.clients.len()
     }
 
-    /// Appends a client.
+    /// The client at a place.
+    pub fn at(&self, place: usize) -> &Client
+        requires { place < length self.now }
+        ensures { Some result.now ≡ slice_get self.now place }
+    {
+        &self.clients[place]
+    }
+
+    /// Appends a client whose address no other has.
     pub fn push(&mut self, client: Client) -> Result<(), NoMemory>
+        requires { find_address client.address self.old ≡ None }
         ensures ok { OnOk result (self.new ≡ self.old ++ client ∷ []) }
         ensures err { OnErr result (self.new ≡ self.old) }
     {
-        self.clients.push(client)?;
+        self.clients.insert(client.address, client)?;
         Ok(())
     }
 
-    /// The first client with this address, and its place.
+    /// The client with this address, and its place.
     pub fn by_address(&self, address: u32) -> Option<(u32, &Client)>
         requires { length self.now ≤ 1024 }
         ensures { option_map (λ found. (found.0, found.1.now)) result ≡ find_address address self.now }
     {
-        for (place, client) in self.clients.iter().enumerate() {
-            if client.address == address {
-                return Some((place as u32, client));
-            }
+        match self.clients.get_full(&address) {
+            Some((place, _, client)) => Some((place as u32, client)),
+            None => None,
         }
-        None
     }
 }

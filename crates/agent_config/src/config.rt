@@ -22,6 +22,8 @@ pub struct Config {
     pub boot: Option<u32>,
     /// How long an entry lives, in milliseconds.
     pub retention: u64,
+    /// How long an entry waits for its answer, in milliseconds.
+    pub patience: u64,
     /// How many entries live at once.
     pub capacity: u32,
     /// How many messages wait for the link at once.
@@ -32,8 +34,8 @@ pub struct Config {
 }
 
 /// Whether the settings, but for the clients, are within the limits: names of at most 64 octets, a
-/// retention of 1,000 to 300,000 ms, a capacity of 1 to 65,536, a backlog of 2 to 65,536 and a
-/// watchdog of 6,000 to 600,000 ms.
+/// retention and a patience of 1,000 to 300,000 ms, a capacity of 1 to 65,536, a backlog of 2 to
+/// 65,536 and a watchdog of 6,000 to 600,000 ms.
 #[tactic(auto, unfolding(crate::specs::Config::are_settings_in_limits))]
 pub fn is_in_limits(config: &Config) -> bool
     ensures { result ≡ specs.are_settings_in_limits config.now }
@@ -42,6 +44,7 @@ pub fn is_in_limits(config: &Config) -> bool
         && is_name(config.realm.as_slice())
         && is_name(config.home_realm.as_slice())
         && (1_000..=300_000).contains(&config.retention)
+        && (1_000..=300_000).contains(&config.patience)
         && (1..=65_536).contains(&config.capacity)
         && (2..=65_536).contains(&config.backlog)
         && (6_000..=600_000).contains(&config.watchdog)

@@ -346,7 +346,7 @@ impl Ledger {
         if !access_map::is_built_answer(&entry.kept, message) {
             return Ok(Heard::Says(dropped(alloc, Reason::NotYet)?));
         }
-        let client = &self.config.clients.as_slice()[entry.kept.client as usize];
+        let client = self.config.clients.at(entry.kept.client as usize);
         // In this form each answer has a reply, and nothing follows.
         let Outcome {
             reply,

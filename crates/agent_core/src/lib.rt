@@ -31,6 +31,7 @@ mod tests {
             address: 0xc000_0201,
             boot: Some(7),
             retention: 30_000,
+            patience: 30_000,
             capacity: 64,
             backlog: 64,
             watchdog: 30_000,

@@ -1,11 +1,11 @@
 //! What a replay knows of the lines so far.
 
-ghost use Rattle.std.specs.Prelude.{◌≡◌, ◌+◌, ◌≤◌, ℕ, [], count_by, Err, IfOk, IfErr, OnOk, length};
+ghost use Rattle.std.specs.Prelude.{◌≡◌, ◌+◌, ◌≤◌, ℕ, [], count_by, None, Err, IfOk, IfErr, OnOk, length};
 ghost use Rattle.std.specs.List.{flat_map};
 ghost use Rattle.wire_core.specs.Counts.{Rose};
 ghost use Rattle.wire_core.specs.Sink.{Appends, AppendsPrefix};
 ghost use Rattle.transcript.specs.Text.{output_line, is_reply as reply_test, is_send as send_test, is_drop as drop_test};
-ghost use Rattle.agent_config.specs.Config.{InLimits, with_client};
+ghost use Rattle.agent_config.specs.Config.{InLimits, find_address, with_client};
 ghost use Rattle.agent_core.specs.History.{Event};
 ghost use Rattle.agent_tool.specs.Session.{AtMost, CanFollow, Followed, FollowedPart, GoesOn, IsBegun, IsDone, IsFailure, PrintsPart, RunsOn, Stands, counted, counts_so_far, end_of, event_text, no_counts};
 
@@ -176,8 +176,9 @@ fn run_event<K: Sink>(
     }
 }
 
-/// A further client.
+/// A further client, with an address of its own.
 fn add_client(random: RandomState, mut config: Config, client: Client) -> Result<Session, Status>
+    requires { find_address client.address config.clients ≡ None }
     ensures added { IfOk result (λ new. new ≡ Session.Clients random (with_client config client)) }
     ensures memory { IfErr result (λ status. status ≡ Status.OutOfMemory) }
 {

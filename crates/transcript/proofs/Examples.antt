@@ -21,6 +21,7 @@ agent_line-example : agent_line (codes "agent agent.example example example 192.
   address = 3221225985;
   boot = Some 7;
   retention = 30000;
+  patience = 30000;
   capacity = 64;
   backlog = 64;
   watchdog = 30000;

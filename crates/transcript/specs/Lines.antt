@@ -22,7 +22,7 @@ words_after name (word ∷ words) = if bytes_eq word name then Some words else N
 abbrev pub in_limits : Config → Option Config
 in_limits config = if are_settings_in_limits config then Some config else None
 
--- the settings that the words after `agent` stand for, with no clients
+-- the settings that the words after `agent` stand for, with no clients; the patience is the retention
 abbrev pub settings_of : List (List ℕ) → Option Config
 settings_of (host ∷ realm ∷ home ∷ address ∷ boot ∷ retention ∷ capacity ∷ backlog ∷ watchdog ∷ []) = do
   address ← address_word address
@@ -38,6 +38,7 @@ settings_of (host ∷ realm ∷ home ∷ address ∷ boot ∷ retention ∷ capa
     address = address;
     boot = Some boot;
     retention = retention;
+    patience = retention;
     capacity = capacity;
     backlog = backlog;
     watchdog = watchdog;

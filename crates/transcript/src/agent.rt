@@ -59,13 +59,18 @@ fn take_all<'a>(words: &mut Pieces<'a>) -> Result<AgentWords<'a>, WordFault>
 fn read_settings(alloc: Global, words: &AgentWords<'_>) -> Result<Config, WordFault>
     ensures { Reads result (lines.settings_of (agent_words words.now)) }
 {
+    let address = read_address(words.address)?;
+    let boot = read_u32(words.boot)?;
+    let retention = read_number(words.retention, u64::MAX)?;
     let config = Config {
         host: Octets::copy(alloc, words.host)?,
         realm: Octets::copy(alloc, words.realm)?,
         home_realm: Octets::copy(alloc, words.home_realm)?,
-        address: read_address(words.address)?,
-        boot: Some(read_u32(words.boot)?),
-        retention: read_number(words.retention, u64::MAX)?,
+        address,
+        boot: Some(boot),
+        retention,
+        // The line has no word for it.
+        patience: retention,
         capacity: read_u32(words.capacity)?,
         backlog: read_u32(words.backlog)?,
         watchdog: read_number(words.watchdog, u64::MAX)?,

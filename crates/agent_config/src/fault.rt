@@ -1,0 +1,30 @@
+//! Why settings can't be read.
+
+use wire_core::{NoMemory, Octets};
+
+/// Why a text gives no settings (profile). A `client` is 0 for the top table, and i for the i-th
+/// client.
+#[derive(Clone, Debug, Drop, PartialEq, Eq)]
+pub enum ConfigFault {
+    /// The text isn't a TOML document in UTF-8.
+    NotToml,
+    /// The table lacks a key that it needs.
+    Missing { client: u32, key: Octets },
+    /// The value of a key isn't of its kind or its range, or the key is unknown.
+    BadValue { client: u32, key: Octets },
+    /// The first client whose address an earlier one has.
+    TwiceAddress { client: u32 },
+    /// Memory ran out.
+    NoMemory,
+}
+
+impl From<NoMemory> for ConfigFault {
+    ghost use Rattle.std.specs.Prelude.{◌≡◌};
+    ghost use Rattle.agent_config.specs.declared.fault.ConfigFault.TheVariants as faults;
+
+    ghost from_gives = { λ _ e. e ≡ faults.NoMemory };
+
+    fn from(_e: NoMemory) -> ConfigFault {
+        ConfigFault::NoMemory
+    }
+}
