@@ -1,11 +1,11 @@
 -- A group that is written.
-use Rattle.std.proofs.Common.{◌≡◌, ℕ, ◌+◌, ◌<◌, ◌≤◌, true, List, [], ◌∷◌, ◌++◌, length, None, refl, sym, ap, ap₂, ◌∙◌, append_assoc, arith}
+use Rattle.std.proofs.Common.{◌≡◌, ℕ, ◌<◌, ◌≤◌, true, List, [], ◌∷◌, ◌++◌, length, None, sym, ap, ◌∙◌, append_assoc, arith}
 use Rattle.std.specs.Prelude.{map, filter}
 use Rattle.std.proofs.lemmas.List.{length-append, append-nil, map-append}
 use Rattle.std.proofs.lemmas.List.Elements.{filter-append, filter_map-append}
 use Rattle.radius_packet.specs.Packet.{AttributeParts}
 use Rattle.diameter_avp.specs.Avps.{AvpParts, made, avp_text, avps_text}
-use Rattle.diameter_avp.specs.Writer.{WriterParts, with_avp, GroupParts, while_open, once_ended, IsOpen}
+use Rattle.diameter_avp.specs.Writer.{WriterParts, with_avp, GroupParts, once_ended, IsOpen}
 use Rattle.diameter_avp.proofs.CallerLemmas.{avps_text-append, avps_text-push, length-avp_text, length-avps_text}
 use Rattle.tunnel_map.specs.Tagged.{TaggedParts, reading, tagged_in}
 use Rattle.tunnel_map.specs.Groups.{member, has_tag, members}

@@ -1,14 +1,12 @@
 -- The members stand behind the group while it is open, and then in it.
-use Rattle.std.proofs.Common.{rules, ◌≡◌, ◌<◌, ◌≤◌, List, [], ◌∷◌, ◌++◌, length, None, true, Err, sym, ap, ◌∙◌, arith}
+use Rattle.std.proofs.Common.{◌≡◌, List, Err, sym, ap, ◌∙◌}
 use Rattle.std.proofs.lemmas.Result.{err_from_is_err_and}
 use Rattle.radius_packet.specs.Packet.{AttributeParts}
 use Rattle.radius_packet.specs.Views.{attribute_view}
-use Rattle.diameter_avp.specs.Avps.{made, avps_text}
-use Rattle.diameter_avp.specs.Writer.{WriterParts, once_ended}
 use Rattle.diameter_avp.specs.declared.writer.WriteFault.TheVariants.{TooLong}
-use Rattle.tunnel_map.specs.Groups.{group, members}
+use Rattle.tunnel_map.specs.Groups.{members}
 use Rattle.tunnel_map.specs.Writing.{with_avps}
-use Rattle.tunnel_map.proofs.WriteLemmas.{opened, too_long-opened, too_long-part, group_of, IsOpen-filled, ended-filled, short-filled, members-first}
+use Rattle.tunnel_map.proofs.WriteLemmas.{too_long-opened, too_long-part, group_of, IsOpen-filled, ended-filled, short-filled, members-first}
 use Rattle.tunnel_map.proofs.writing.write_group.Goals as goal
 
 pub returns-in_err-group-clause-too_long : goal.returns-in_err-group-clause-too_long
