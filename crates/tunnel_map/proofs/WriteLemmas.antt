@@ -57,6 +57,11 @@ IsOpen-filled w mid avps place e at =
       place = at;
     }
 
+-- nothing is left, so that all members were put
+pub all-put : (w begun mid : WriterParts) (tag : ℕ) (attributes left : List AttributeParts) → with_avps mid (members tag left) ≡ with_avps begun (members tag attributes) → left ≡ [] → begun ≡ opened w → with_avps mid [] ≡ with_avps (opened w) (members tag attributes)
+all-put w begun mid tag attributes left e none is =
+    ap (λ (rest : List AttributeParts). with_avps mid (members tag rest)) (sym none) ∙ e ∙ ap (λ (x : WriterParts). with_avps x (members tag attributes)) is
+
 -- the empty group alone is too long already
 pub too_long-opened : (w : WriterParts) (avps : List AvpParts) → 65516 < length (avps_text (opened w).list) → 65516 < length (avps_text (with_avp w (made 401 None true (avps_text avps))).list)
 too_long-opened w avps long = omega (arith, longer (opened w).list avps, length-opened w avps)
