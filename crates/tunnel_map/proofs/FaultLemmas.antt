@@ -1,9 +1,9 @@
 -- What the pass over a group's members finds.
-use Rattle.std.proofs.Common.{◌≡◌, ℕ, Bool, true, false, cond, List, [], ◌∷◌, Option, Some, None, Ok, Err, refl, sym, ap, ◌∙◌}
+use Rattle.std.proofs.Common.{◌≡◌, ℕ, Bool, true, false, cond, List, [], ◌∷◌, Option, Some, None, refl, sym, ap, ◌∙◌}
 use Rattle.std.specs.Prelude.{find, option_map}
 use Rattle.std.specs.Option.{option_or}
 use Rattle.diameter_avp.specs.declared.fault.AvpFault.{AvpFault}
-use Rattle.diameter_avp.specs.Avps.{AvpParts, avps_fault, readable_avps, read_avps, is_mandatory}
+use Rattle.diameter_avp.specs.Avps.{AvpParts, avps_fault, readable_avps, read_avps}
 use Rattle.diameter_avp.proofs.CallerLemmas.{read_avps-none, read_avps-some}
 use Rattle.tunnel_map.specs.declared.fault.TunnelFault.{TunnelFault}
 use Rattle.tunnel_map.specs.declared.fault.TunnelFault.TheVariants.{Rotten, Unknown, BadSize, TooMany}

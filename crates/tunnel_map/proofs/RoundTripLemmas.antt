@@ -1,20 +1,20 @@
 -- Groups that are written are read back.
-use Rattle.std.proofs.Common.{◌≡◌, ℕ, ◌+◌, ◌<◌, ◌≤◌, ◌^◌, ◌⊎◌, inl, inr, Bool, true, false, cond, ◌&&◌, ◌||◌, not, List, [], ◌∷◌, ◌++◌, length, map, filter, Option, Some, None, Ok, refl, sym, ap, ap₂, ◌∙◌, arith}
-use Rattle.std.specs.Prelude.{nat_eq, nat_le, nat_lt, find, IfSome}
+use Rattle.std.proofs.Common.{◌≡◌, ℕ, ◌+◌, ◌<◌, ◌≤◌, ◌^◌, Bool, true, false, cond, ◌&&◌, List, [], ◌∷◌, ◌++◌, length, map, filter, Option, Some, None, refl, ap, ap₂, ◌∙◌, arith}
+use Rattle.std.specs.Prelude.{nat_le, nat_lt, find, IfSome}
 use Rattle.std.specs.List.{AllByRecursion, cons_option, flat_map, enumerate_from}
-use Rattle.std.proofs.lemmas.List.{length-append, append-nil}
-use Rattle.std.proofs.lemmas.Bool.{le-leb, lt-leb, leb-true, eq-eqb, eqb-true}
+use Rattle.std.proofs.lemmas.List.{length-append}
+use Rattle.std.proofs.lemmas.Bool.{le-leb, lt-leb, eq-eqb, eqb-true}
 use Rattle.std.proofs.lemmas.Bool.Decides.{nat_tests}
 use Rattle.radius_packet.specs.Packet.{AttributeParts}
-use Rattle.diameter_avp.specs.Avps.{AvpParts, avp_length, avp_text, avps_text, made, is_mandatory, IsAvp, IsAvps, readable_avps, read_avps}
+use Rattle.diameter_avp.specs.Avps.{AvpParts, avp_length, avp_text, avps_text, is_mandatory, IsAvp, IsAvps}
 use Rattle.diameter_avp.proofs.TextLemmas.{read_avps-IsAvps, readable_avps-IsAvps}
 use Rattle.diameter_avp.proofs.CallerLemmas.{length-avp_text}
 use Rattle.diameter_avp.proofs.WriterLemmas.{IsAvp-made, IsAvps-append, IsAvps-one}
 use Rattle.tunnel_map.specs.declared.kind.Kind.{Kind}
 use Rattle.tunnel_map.specs.declared.kind.Kind.TheVariants.{Number, Text}
-use Rattle.tunnel_map.specs.Tagged.{TaggedParts, is_number, is_text, kind_of, number_in, text_in, reading_as, reading, tagged_in}
-use Rattle.tunnel_map.specs.Groups.{member, has_tag, members, group, attribute_body, body_in, body_as, is_unknown, has_bad_size, first_code, members_fault, list_fault, group_fault, attribute_of, attributes_of, group_attributes}
-use Rattle.tunnel_map.specs.RoundTrip.{tags_of, groups, is_group, numbered_groups, retagged, by_tag, AreShort, AreReadBack, GroupsAreReadBack, WrittenGroupsAreAccepted}
+use Rattle.tunnel_map.specs.Tagged.{TaggedParts, kind_of, reading_as, reading, tagged_in}
+use Rattle.tunnel_map.specs.Groups.{member, has_tag, group, attribute_body, body_in, is_unknown, has_bad_size, group_fault, attribute_of, attributes_of, group_attributes}
+use Rattle.tunnel_map.specs.RoundTrip.{tags_of, groups, is_group, retagged, AreShort, GroupsAreReadBack, WrittenGroupsAreAccepted}
 
 -- ---- what is tagged
 

@@ -1,11 +1,11 @@
 -- A group that is written.
-use Rattle.std.proofs.Common.{◌≡◌, ℕ, ◌+◌, ◌<◌, ◌≤◌, true, List, [], ◌∷◌, ◌++◌, length, None, refl, sym, ap, ap₂, ◌∙◌, append_assoc, arith}
+use Rattle.std.proofs.Common.{◌≡◌, ℕ, ◌<◌, ◌≤◌, true, List, [], ◌∷◌, ◌++◌, length, None, sym, ap, ◌∙◌, append_assoc, arith}
 use Rattle.std.specs.Prelude.{map, filter}
 use Rattle.std.proofs.lemmas.List.{length-append, append-nil, map-append}
 use Rattle.std.proofs.lemmas.List.Elements.{filter-append, filter_map-append}
 use Rattle.radius_packet.specs.Packet.{AttributeParts}
 use Rattle.diameter_avp.specs.Avps.{AvpParts, made, avp_text, avps_text}
-use Rattle.diameter_avp.specs.Writer.{WriterParts, with_avp, GroupParts, while_open, once_ended, IsOpen}
+use Rattle.diameter_avp.specs.Writer.{WriterParts, with_avp, GroupParts, once_ended, IsOpen}
 use Rattle.diameter_avp.proofs.CallerLemmas.{avps_text-append, avps_text-push, length-avp_text, length-avps_text}
 use Rattle.tunnel_map.specs.Tagged.{TaggedParts, reading, tagged_in}
 use Rattle.tunnel_map.specs.Groups.{member, has_tag, members}
@@ -56,6 +56,11 @@ IsOpen-filled w mid avps place e at =
       list = sym (append-nil mid.list) ∙ ap (λ (x : WriterParts). x.list) e ∙ append_assoc w.list (made 401 None true [] ∷ []) avps;
       place = at;
     }
+
+-- nothing is left, so that all members were put
+pub all-put : (w begun mid : WriterParts) (tag : ℕ) (attributes left : List AttributeParts) → with_avps mid (members tag left) ≡ with_avps begun (members tag attributes) → left ≡ [] → begun ≡ opened w → with_avps mid [] ≡ with_avps (opened w) (members tag attributes)
+all-put w begun mid tag attributes left e none is =
+    ap (λ (rest : List AttributeParts). with_avps mid (members tag rest)) (sym none) ∙ e ∙ ap (λ (x : WriterParts). with_avps x (members tag attributes)) is
 
 -- the empty group alone is too long already
 pub too_long-opened : (w : WriterParts) (avps : List AvpParts) → 65516 < length (avps_text (opened w).list) → 65516 < length (avps_text (with_avp w (made 401 None true (avps_text avps))).list)

@@ -4,7 +4,7 @@ use Rattle.std.specs.List.{AllByRecursion, flat_map, enumerate_from}
 use Rattle.radius_packet.specs.Packet.{AttributeParts}
 use Rattle.diameter_avp.specs.Avps.{AvpParts, avps_text, read_avps}
 use Rattle.tunnel_map.specs.Tagged.{TaggedParts, reading, tagged_in}
-use Rattle.tunnel_map.specs.Groups.{has_tag, members, group, group_fault, group_attributes}
+use Rattle.tunnel_map.specs.Groups.{has_tag, group, group_fault, group_attributes}
 
 -- the tags of these attributes, each once, in the order of its first place
 abbrev pub tags_of : List TaggedParts → List ℕ

@@ -1,8 +1,8 @@
 -- What was found over all members is the first fault.
-use Rattle.std.proofs.Common.{◌≡◌, Option, Some, None, List, [], ◌∷◌, sym, ap, ◌∙◌, rules}
+use Rattle.std.proofs.Common.{◌≡◌, Some, None, [], ◌∷◌, sym, ap, ◌∙◌, rules}
 use Rattle.std.specs.Result.{ok_prefix}
 use Rattle.diameter_avp.specs.View.{avp_view}
-use Rattle.diameter_avp.specs.Avps.{AvpParts, fault_of, avps_fault, readable_avps}
+use Rattle.diameter_avp.specs.Avps.{fault_of, avps_fault, readable_avps}
 use Rattle.tunnel_map.specs.Groups.{is_unknown, has_bad_size}
 use Rattle.tunnel_map.proofs.FaultLemmas.{next_code, fault-rotten, found_fault, fault-found}
 use Rattle.tunnel_map.proofs.checking.check_members.Goals as goal

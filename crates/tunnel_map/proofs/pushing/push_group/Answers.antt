@@ -1,12 +1,11 @@
 -- The attributes of the members are pushed in order.
-use Rattle.std.proofs.Common.{rules, ◌≡◌, None, List, ◌∷◌, sym, ap, ◌∙◌, subst}
+use Rattle.std.proofs.Common.{rules, ◌≡◌, None, ◌∷◌, sym, ap, ◌∙◌}
 use Rattle.std.specs.Result.{ok_prefix}
-use Rattle.radius_packet.specs.Packet.{AttributeParts}
 use Rattle.diameter_avp.specs.View.{avp_view}
-use Rattle.diameter_avp.specs.Avps.{avp_items, fault_of}
-use Rattle.tunnel_map.specs.Groups.{attributes_of, group_attributes, PushedInPart}
+use Rattle.diameter_avp.specs.Avps.{fault_of}
+use Rattle.tunnel_map.specs.Groups.{group_attributes}
 use Rattle.tunnel_map.proofs.FaultLemmas.{whole-accepted}
-use Rattle.tunnel_map.proofs.PushLemmas.{Pushed, none_pushed, member_pushed, member_refused, all_pushed, err_room, on_err}
+use Rattle.tunnel_map.proofs.PushLemmas.{none_pushed, member_pushed, member_refused, err_room, on_err}
 use Rattle.tunnel_map.proofs.pushing.push_group.Goals as goal
 
 pub loop-item-init : goal.loop-item-init

@@ -1,5 +1,4 @@
 -- The value that is pushed is the tag and the body.
-use Rattle.std.proofs.Common.{rules}
 use Rattle.diameter_avp.specs.View.{avp_view}
 use Rattle.tunnel_map.proofs.PushLemmas.{own_pushed, front_taken}
 use Rattle.tunnel_map.proofs.pushing.push_member.Goals as goal
