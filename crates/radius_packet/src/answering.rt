@@ -116,7 +116,7 @@ impl Reply {
     }
 
     /// The signed packet: the Message-Authenticator, where there is one, and then the Response Authenticator are
-    /// filled in.
+    /// filled in. Its octets still have the room of the longest packet; a copy has its own size.
     pub fn finish(self, secret: &[u8]) -> Octets
         ensures text { result ≡ reply_text secret.now self.request self.code self.id self.sealed self.attributes }
         ensures packet { (a : List ℕ) × IsPacket result (record {
