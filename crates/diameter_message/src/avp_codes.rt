@@ -43,7 +43,7 @@ pub const ACCOUNTING_RECORD_TYPE: u32 = 480;
 
 pub const ACCOUNTING_RECORD_NUMBER: u32 = 485;
 
-// RFC 4005, sections 6 to 9.
+// RFC 4005, sections 5 to 9.
 pub const USER_PASSWORD: u32 = 2;
 
 pub const STATE: u32 = 24;
