@@ -1,3 +1,3 @@
 pub mod ClientLimits
-pub mod Room
+pub mod Pieces
 pub mod Summaries

@@ -7,7 +7,8 @@ use Rattle.std.specs.List.{list_all}
 use Rattle.wire_core.specs.Numbers.{number}
 use Rattle.diameter_avp.specs.declared.fault.AvpFault.{AvpFault}
 use Rattle.diameter_avp.specs.Avps.{AvpParts, avps_fault, readable_avps, read_avps, unless_fault}
-use Rattle.access_map.specs.Answers.{has_code, is_built_code, is_result_code}
+use Rattle.diameter_message.specs.Finding.{has_code, has_size}
+use Rattle.access_map.specs.Answers.{is_built_code}
 use Rattle.access_map.specs.Summary.{session_ids_of, summary_of, summary_in, further_session_id, noted}
 use Rattle.access_map.specs.declared.summary.SessionIds.{SessionIds}
 use Rattle.access_map.specs.declared.summary.SessionIds.TheVariants.{Missing, Own, Other}
@@ -58,10 +59,10 @@ or-none : (r : Option ℕ) → option_or r None ≡ r
 or-none None = refl
 or-none (Some r) = refl
 
-result-fold : (session : List ℕ) (s : Summary) (avps : List AvpParts) → (fold (noted session) s avps).result ≡ option_or s.result (numbers (find is_result_code avps))
+result-fold : (session : List ℕ) (s : Summary) (avps : List AvpParts) → (fold (noted session) s avps).result ≡ option_or s.result (numbers (find (has_size 268 4 4) avps))
 result-fold session s [] = sym (or-none s.result)
 result-fold session s (a ∷ avps) =
-    result-fold session (noted session s a) avps ∙ result-step s.result a (is_result_code a) (find is_result_code avps)
+    result-fold session (noted session s a) avps ∙ result-step s.result a (has_size 268 4 4 a) (find (has_size 268 4 4) avps)
 
 -- ---- together
 

@@ -1,13 +1,14 @@
 -- What an AA-Answer becomes: an Access-Accept or an Access-Reject (RFC 4005, section 3.2 and section 9).
-use Rattle.std.specs.Prelude.{ℕ, Bool, true, false, ◌==◌, nat_eq, nat_le, nat_lt, not, ◌&&◌, ◌||◌, List, [], ◌∷◌, length, find, filter, bit_and, Option, Some, None, is_none, Result, Ok, Err, if◌then◌else◌}
+use Rattle.std.specs.Prelude.{ℕ, Bool, true, false, ◌==◌, nat_eq, nat_lt, not, ◌&&◌, ◌||◌, List, [], ◌∷◌, length, filter, bit_and, Some, None, Result, Ok, Err, if◌then◌else◌}
 use Rattle.std.specs.List.{list_all}
 use Rattle.std.specs.Cmp.Lexicographic.{pointwise}
-use Rattle.wire_core.specs.Numbers.{number}
 use Rattle.radius_packet.specs.Seals.{reply_text}
 use Rattle.diameter_avp.specs.Avps.{AvpParts, read_avps}
 use Rattle.diameter_avp.specs.declared.fault.AvpFault.{AvpFault}
 use Rattle.diameter_message.specs.declared.header.Header.{Header}
 use Rattle.diameter_message.specs.Message.{MessageParts}
+use Rattle.diameter_message.specs.Finding.{has_code}
+use Rattle.diameter_message.specs.Results.{is_success, result_code, result_in}
 use Rattle.session_carrier.specs.Session.{class_text}
 use Rattle.session_carrier.specs.declared.kept.Kept.{Kept}
 use Rattle.session_carrier.specs.declared.kept.Outcome.{Outcome}
@@ -20,22 +21,6 @@ is_answer h = nat_lt h.flags 128 && h.command == 265
 -- flag E is clear
 abbrev pub is_no_error : Header → Bool
 is_no_error h = bit_and h.flags 32 == 0
-
--- an AVP of the base protocol with this code
-abbrev pub has_code : ℕ → AvpParts → Bool
-has_code code a = is_none a.vendor && a.code == code
-
--- a Result-Code of four octets
-abbrev pub is_result_code : AvpParts → Bool
-is_result_code a = has_code 268 a && length a.body == 4
-
-abbrev pub result_of : Option AvpParts → ℕ
-result_of None = 0
-result_of (Some a) = number a.body
-
--- the first Result-Code, else 0
-abbrev pub result_code : List AvpParts → ℕ
-result_code avps = result_of (find is_result_code avps)
 
 -- exactly one Session-Id, which is the request's
 abbrev pub is_lone : List ℕ → List AvpParts → Bool
@@ -62,10 +47,6 @@ is_built_answer kept message =
     is_built_header message.header && nat_eq (length kept.proxy) 0
     && are_built_avps kept.session (read_avps message.avps)
 
--- 2000 to 2999 (RFC 6733, section 7.1)
-abbrev pub is_success : ℕ → Bool
-is_success result = nat_le 2000 result && nat_lt result 3000
-
 -- a sealed Access-Accept with the session as its Class
 abbrev pub accept_text : Client → Kept → List ℕ
 accept_text client kept =
@@ -77,10 +58,6 @@ reject_text client kept = reply_text client.secret kept.authenticator 3 kept.id 
 
 unfoldable pub reply_to : Client → Kept → ℕ → List ℕ
 reply_to client kept result = if is_success result then accept_text client kept else reject_text client kept
-
-abbrev pub result_in : Result (List AvpParts) AvpFault → ℕ
-result_in (Err fault) = 0
-result_in (Ok avps) = result_code avps
 
 -- what an answer of the first form causes: its reply, and nothing that follows
 abbrev pub outcome : Client → Kept → MessageParts → Outcome

@@ -1,4 +1,3 @@
 pub mod Answers
 pub mod Requests
 pub mod Summary
-pub mod Writing

@@ -1,14 +1,15 @@
 -- What an Access-Request becomes: an AA-Request (RFC 4005, section 3.1 and section 9; the order of the
 -- AVPs is this profile's).
-use Rattle.std.specs.Prelude.{ℕ, Bool, true, false, ◌==◌, nat_eq, not, ◌&&◌, ◌||◌, List, [], ◌∷◌, ◌++◌, Option, Some, None, Result, Ok, Err, is_ok, if◌then◌else◌}
+use Rattle.std.specs.Prelude.{ℕ, Bool, false, ◌==◌, nat_eq, not, ◌&&◌, ◌||◌, List, [], ◌∷◌, ◌++◌, Option, Some, None, Result, Ok, Err, is_ok, if◌then◌else◌}
 use Rattle.std.specs.List.{list_all, list_any, flat_map}
 use Rattle.wire_core.specs.Numbers.{u32}
 use Rattle.radius_packet.specs.Packet.{PacketParts, AttributeParts}
 use Rattle.radius_packet.specs.declared.reasons.Reason.{Reason}
 use Rattle.radius_packet.specs.declared.reasons.Reason.TheVariants.{NotYet}
-use Rattle.diameter_avp.specs.Avps.{AvpParts, made, avps_text}
+use Rattle.diameter_avp.specs.Avps.{AvpParts, avps_text}
 use Rattle.diameter_message.specs.declared.header.Header.{Header}
 use Rattle.diameter_message.specs.Message.{message_text}
+use Rattle.diameter_message.specs.PlainAvps.{origin_avps, plain_avp}
 use Rattle.attribute_table.specs.declared.row.Row.{Row}
 use Rattle.attribute_table.specs.Rows.{row_of}
 use Rattle.attribute_table.specs.Images.{forward_image}
@@ -36,16 +37,12 @@ abbrev pub judgement : Client → PacketParts → Result Kind2 Reason
 judgement client packet =
     if not client.require_seal && list_all is_built_attribute packet.attributes then Ok Access else Err NotYet
 
--- an AVP as the agent writes them: M set, V clear (RFC 6733, section 4.1)
-abbrev pub plain_avp : ℕ → List ℕ → AvpParts
-plain_avp code body = made code None true body
-
 -- a User-Password, a CHAP-Password or an EAP-Message
 abbrev pub is_credential : AttributeParts → Bool
 is_credential a = a.code == 2 || a.code == 3 || a.code == 79
 
 -- Auth-Request-Type: AUTHORIZE_AUTHENTICATE, or AUTHORIZE_ONLY where nothing is there to authenticate by
--- (RFC 4005, section 8.7; profile)
+-- (RFC 6733, section 8.7; profile)
 abbrev pub request_type : PacketParts → ℕ
 request_type packet = if list_any is_credential packet.attributes then 3 else 2
 
@@ -56,8 +53,8 @@ host_avps (Some host) = plain_avp 293 host ∷ []
 -- Session-Id, Auth-Application-Id, Origin-Host, Origin-Realm, Destination-Realm
 abbrev pub names : Client → RouteParts → List AvpParts
 names client route =
-    plain_avp 263 route.session ∷ plain_avp 258 (u32 1) ∷ plain_avp 264 client.origin_host
-    ∷ plain_avp 296 client.origin_realm ∷ plain_avp 283 route.realm ∷ []
+    plain_avp 263 route.session ∷ plain_avp 258 (u32 1) ∷ origin_avps client.origin_host client.origin_realm
+    ++ plain_avp 283 route.realm ∷ []
 
 -- the names, Destination-Host where there is one, Auth-Request-Type, Origin-AAA-Protocol = RADIUS
 abbrev pub head : Client → PacketParts → RouteParts → List AvpParts

@@ -1,12 +1,12 @@
 -- What one pass over the AVPs of an answer finds.
-use Rattle.std.specs.Prelude.{ℕ, nat_eq, ◌&&◌, List, [], ◌∷◌, filter, find, Option, Some, None, option_map, Result, Ok, Err, if◌then◌else◌}
+use Rattle.std.specs.Prelude.{ℕ, nat_eq, ◌&&◌, List, [], ◌∷◌, filter, Result, Ok, Err, if◌then◌else◌}
 use Rattle.std.specs.Option.{option_or}
 use Rattle.std.specs.List.{list_all}
 use Rattle.std.specs.Cmp.Lexicographic.{pointwise}
-use Rattle.wire_core.specs.Numbers.{number}
 use Rattle.diameter_avp.specs.Avps.{AvpParts}
 use Rattle.diameter_avp.specs.declared.fault.AvpFault.{AvpFault}
-use Rattle.access_map.specs.Answers.{has_code, is_built_code, is_result_code}
+use Rattle.diameter_message.specs.Finding.{has_code, number_of, first_number}
+use Rattle.access_map.specs.Answers.{is_built_code}
 use Rattle.access_map.specs.declared.summary.SessionIds.{SessionIds}
 use Rattle.access_map.specs.declared.summary.SessionIds.TheVariants.{Missing, Own, Other}
 use Rattle.access_map.specs.declared.summary.Summary.{Summary}
@@ -20,15 +20,11 @@ session_ids_of session [] = Missing
 session_ids_of session (a ∷ []) = own_or_other session a
 session_ids_of session (a ∷ b ∷ rest) = Other
 
--- the number in an AVP that is a Result-Code
-abbrev pub own_result : AvpParts → Option ℕ
-own_result a = if is_result_code a then Some (number a.body) else None
-
 abbrev pub summary_of : List ℕ → List AvpParts → Summary
 summary_of session avps = record {
   known = list_all is_built_code avps;
   session_ids = session_ids_of session (filter (has_code 263) avps);
-  result = option_map (λ a. number a.body) (find is_result_code avps);
+  result = first_number 268 avps;
 }
 
 abbrev pub summary_in : List ℕ → Result (List AvpParts) AvpFault → Result Summary AvpFault
@@ -49,5 +45,5 @@ abbrev pub noted : List ℕ → Summary → AvpParts → Summary
 noted session s a = record {
   known = s.known && is_built_code a;
   session_ids = next_session_ids session s.session_ids a;
-  result = option_or s.result (own_result a);
+  result = option_or s.result (number_of 268 a);
 }

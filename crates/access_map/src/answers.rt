@@ -5,19 +5,16 @@ ghost use Rattle.diameter_avp.specs.Avps.{read_avps};
 ghost use Rattle.diameter_message.specs.View.{message_view};
 ghost use Rattle.access_map.specs.Answers as specs;
 
-use crate::codes::{AA_COMMAND, ACCESS_ACCEPT, ACCESS_REJECT, CLASS};
+use crate::codes::{ACCESS_ACCEPT, ACCESS_REJECT, CLASS};
 use crate::summary::{SessionIds, summarize};
 use agent_config::Client;
-use diameter_message::{Header, Message};
+use diameter_message::command_codes::AA;
+use diameter_message::command_flags::{ERROR, REQUEST};
+use diameter_message::{Header, Message, is_success, result_code};
 use radius_packet::Reply;
 use session_carrier::{CarrierFault, Kept, Numbers, Outcome, class_of};
 use std::alloc::Global;
 use wire_core::{NoMemory, Octets};
-
-// The command flags (RFC 6733, section 3).
-const REQUEST: u8 = 0x80;
-
-const ERROR: u8 = 0x20;
 
 // DIAMETER_MULTI_ROUND_AUTH (RFC 6733, section 7.1.1).
 const MULTI_ROUND: u32 = 1001;
@@ -26,7 +23,7 @@ const MULTI_ROUND: u32 = 1001;
 fn is_built_header(header: &Header) -> bool
     ensures { result ≡ specs.is_built_header header.now }
 {
-    header.flags < REQUEST && header.command == AA_COMMAND && header.flags & ERROR == 0
+    header.flags < REQUEST && header.command == AA && header.flags & ERROR == 0
 }
 
 /// Whether these are the AVPs of an answer that is translated.
@@ -54,16 +51,6 @@ pub fn is_built_answer(kept: &Kept, message: &Message<'_>) -> bool
         && are_built_avps(kept.session.as_slice(), message.avps)
 }
 
-/// The first Result-Code of these AVPs, or 0.
-fn result_code(session: &[u8], octets: &[u8]) -> u32
-    ensures { result ≡ specs.result_in (read_avps octets.now) }
-{
-    match summarize(session, octets) {
-        Ok(found) => found.result.unwrap_or(0),
-        Err(_) => 0,
-    }
-}
-
 /// The Access-Accept, whose Class is the session.
 fn accept(alloc: Global, client: &Client, kept: &Kept) -> Result<Octets, NoMemory>
     requires { length kept.now.session ≤ 244 }
@@ -84,13 +71,6 @@ fn reject(alloc: Global, client: &Client, kept: &Kept) -> Result<Octets, NoMemor
 {
     let reply = Reply::new(alloc, ACCESS_REJECT, kept.id, kept.authenticator, true)?;
     Ok(reply.finish(client.secret.as_slice()))
-}
-
-/// Whether the request succeeded (RFC 6733, section 7.1.2).
-fn is_success(code: u32) -> bool
-    ensures { result ≡ specs.is_success code }
-{
-    (2000..3000).contains(&code)
 }
 
 #[tactic(auto, unfolding(crate::specs::Answers::reply_to))]
@@ -117,7 +97,7 @@ pub fn answer(
     requires session { length kept.now.session ≤ 244 }
     ensures { IfOk result (λ o. o ≡ specs.outcome client.now kept.now (message_view message.now)) }
 {
-    let code = result_code(kept.session.as_slice(), message.avps);
+    let code = result_code(message.avps);
     let reply = reply(alloc, client, kept, code)?;
     Ok(Outcome {
         reply: Some(reply),

@@ -1,64 +1,38 @@
 //! The AA-Request of an Access-Request (RFC 4005, sections 3.1 and 9).
 
-ghost use Rattle.std.specs.Prelude.{◌≡◌, ◌+◌, ◌≤◌, [], ◌∷◌, length, Ok, IfOk, IfSome, OnOk};
+ghost use Rattle.std.specs.Prelude.{◌≡◌, ◌+◌, ◌≤◌, length, Ok, IfOk, IfSome, OnOk};
 ghost use Rattle.std.specs.List.{flat_map};
-ghost use Rattle.wire_core.specs.Numbers.{u32 as text32};
 ghost use Rattle.radius_packet.specs.Views.{attribute_view};
 ghost use Rattle.agent_config.specs.Config.{ClientInLimits};
 ghost use Rattle.session_carrier.specs.Route.{route_view};
 ghost use Rattle.session_carrier.specs.declared.kept.Kind2.TheVariants.{Access};
 ghost use Rattle.access_map.specs.Requests as specs;
 ghost use Rattle.access_map.specs.Requests.{judgement, access_image};
-ghost use Rattle.access_map.specs.Writing.{list_length, with_avps, Puts};
+ghost use Rattle.diameter_message.specs.Writer.{list_length, with_avps, Puts};
 
-use crate::codes::{
-    AA_COMMAND, AUTH_APPLICATION_ID, AUTH_REQUEST_TYPE, CHAP_PASSWORD, DESTINATION_HOST,
-    DESTINATION_REALM, EAP_MESSAGE, ORIGIN_AAA_PROTOCOL, ORIGIN_HOST, ORIGIN_REALM, SESSION_ID,
-    USER_PASSWORD,
-};
+use crate::codes::{CHAP_PASSWORD, EAP_MESSAGE, USER_PASSWORD};
 use agent_config::Client;
 use attribute_table::{forward, row_of_type};
-use diameter_avp::WriteFault;
+use diameter_message::applications::NASREQ;
+use diameter_message::avp_codes::{
+    AUTH_APPLICATION_ID, AUTH_REQUEST_TYPE, DESTINATION_HOST, DESTINATION_REALM,
+    ORIGIN_AAA_PROTOCOL, SESSION_ID,
+};
+use diameter_message::command_codes::AA;
+use diameter_message::command_flags::{PROXIABLE, REQUEST};
 use diameter_message::{Header, MessageWriter};
 use radius_packet::{Attribute, Packet};
 use session_carrier::{Numbers, Route};
 use std::alloc::Global;
-use wire_core::{NoMemory, Octets, put_u32};
+use wire_core::{NoMemory, Octets};
 
-// R and P.
-const REQUEST_FLAGS: u8 = 0xc0;
-
-// The application of RFC 4005.
-const NAS_APPLICATION: u32 = 1;
-
-// Auth-Request-Types (RFC 4005, section 8.7).
+// Auth-Request-Types (RFC 6733, section 8.7).
 const AUTHORIZE_ONLY: u32 = 2;
 
 const AUTHORIZE_AUTHENTICATE: u32 = 3;
 
 // The Origin-AAA-Protocol of RFC 4005, section 9.3.6.
 const RADIUS: u32 = 1;
-
-/// Puts an AVP at the end, with M set and V clear.
-fn put(writer: &mut MessageWriter, code: u32, body: &[u8]) -> Result<(), NoMemory>
-    requires { list_length writer.old + length body.now + 11 ≤ 65516 }
-    ensures { OnOk result (Puts writer.old writer.new (specs.plain_avp code body.now ∷ []) (length body.now + 11)) }
-{
-    match writer.put(code, None, true, body) {
-        Ok(()) => Ok(()),
-        Err(WriteFault::NoMemory) => Err(NoMemory),
-        Err(WriteFault::TooLong) => unreachable!(),
-    }
-}
-
-fn put_number(writer: &mut MessageWriter, code: u32, value: u32) -> Result<(), NoMemory>
-    requires { list_length writer.old + 15 ≤ 65516 }
-    ensures { OnOk result (Puts writer.old writer.new (specs.plain_avp code (text32 value) ∷ []) 15) }
-{
-    let mut octets = [0; 4];
-    put_u32(&mut octets, 0, value);
-    put(writer, code, &octets)
-}
 
 /// Puts the names that a request begins with.
 fn put_names(writer: &mut MessageWriter, client: &Client, route: &Route<'_>) -> Result<(), NoMemory>
@@ -69,11 +43,13 @@ fn put_names(writer: &mut MessageWriter, client: &Client, route: &Route<'_>) -> 
     requires origin_realm { length client.now.origin_realm ≤ 64 }
     ensures { OnOk result (Puts writer.old writer.new (specs.names client.now (route_view route.now)) 900) }
 {
-    put(writer, SESSION_ID, route.session)?;
-    put_number(writer, AUTH_APPLICATION_ID, NAS_APPLICATION)?;
-    put(writer, ORIGIN_HOST, client.origin_host.as_slice())?;
-    put(writer, ORIGIN_REALM, client.origin_realm.as_slice())?;
-    put(writer, DESTINATION_REALM, route.realm)
+    writer.put_plain(SESSION_ID, route.session)?;
+    writer.put_number(AUTH_APPLICATION_ID, NASREQ)?;
+    writer.put_origin(
+        client.origin_host.as_slice(),
+        client.origin_realm.as_slice(),
+    )?;
+    writer.put_plain(DESTINATION_REALM, route.realm)
 }
 
 /// Puts the Destination-Host where there is one.
@@ -83,7 +59,7 @@ fn put_host(writer: &mut MessageWriter, route: &Route<'_>) -> Result<(), NoMemor
     ensures { OnOk result (Puts writer.old writer.new (specs.host_avps (route_view route.now).host) 266) }
 {
     match route.host {
-        Some(host) => put(writer, DESTINATION_HOST, host),
+        Some(host) => writer.put_plain(DESTINATION_HOST, host),
         None => Ok(()),
     }
 }
@@ -124,8 +100,8 @@ fn put_head(
 {
     put_names(writer, client, route)?;
     put_host(writer, route)?;
-    put_number(writer, AUTH_REQUEST_TYPE, request_type(packet))?;
-    put_number(writer, ORIGIN_AAA_PROTOCOL, RADIUS)
+    writer.put_number(AUTH_REQUEST_TYPE, request_type(packet))?;
+    writer.put_number(ORIGIN_AAA_PROTOCOL, RADIUS)
 }
 
 /// Puts the image of an attribute, where it has one.
@@ -137,7 +113,7 @@ fn put_image(writer: &mut MessageWriter, attribute: &Attribute<'_>) -> Result<()
         return Ok(());
     };
     match forward(&row, attribute.value) {
-        Ok(image) if row.access => put(writer, row.avp, image.octets()),
+        Ok(image) if row.access => writer.put_plain(row.avp, image.octets()),
         _ => Ok(()),
     }
 }
@@ -169,9 +145,9 @@ pub fn request(
     ensures { IfOk result (λ o. o ≡ access_image client.now packet.now (route_view route.now) numbers) }
 {
     let header = Header {
-        flags: REQUEST_FLAGS,
-        command: AA_COMMAND,
-        application: NAS_APPLICATION,
+        flags: REQUEST | PROXIABLE,
+        command: AA,
+        application: NASREQ,
         hop: numbers.hop,
         end: numbers.end,
     };

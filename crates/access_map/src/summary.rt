@@ -6,11 +6,11 @@ ghost use Rattle.diameter_avp.specs.View.{avp_view};
 ghost use Rattle.access_map.specs.Answers as answers;
 ghost use Rattle.access_map.specs.Summary as specs;
 
-use crate::codes::{
+use diameter_avp::{Avp, AvpFault, avps};
+use diameter_message::avp_codes::{
     AUTH_APPLICATION_ID, AUTH_REQUEST_TYPE, ORIGIN_HOST, ORIGIN_REALM, RESULT_CODE, SESSION_ID,
 };
-use diameter_avp::{Avp, AvpFault, avps};
-use wire_core::get_u32;
+use diameter_message::{has_code, number_of};
 
 /// The Session-Ids of a list.
 #[derive(Clone, Copy, Debug)]
@@ -31,13 +31,6 @@ pub(crate) struct Summary {
     pub session_ids: SessionIds,
     /// The first Result-Code of four octets.
     pub result: Option<u32>,
-}
-
-/// An AVP of the base protocol with this code.
-fn has_code(avp: &Avp<'_>, code: u32) -> bool
-    ensures { result ≡ answers.has_code code (avp_view avp.now) }
-{
-    avp.vendor.is_none() && avp.code == code
 }
 
 fn is_built_code(avp: &Avp<'_>) -> bool
@@ -64,17 +57,6 @@ fn next_session_ids(before: SessionIds, avp: &Avp<'_>, session: &[u8]) -> Sessio
     }
 }
 
-/// The number in an AVP that is a Result-Code.
-fn result_of(avp: &Avp<'_>) -> Option<u32>
-    ensures { result ≡ specs.own_result (avp_view avp.now) }
-{
-    if has_code(avp, RESULT_CODE) && avp.body.len() == 4 {
-        Some(get_u32(avp.body, 0))
-    } else {
-        None
-    }
-}
-
 /// What is found with one AVP more.
 fn noted(before: Summary, avp: &Avp<'_>, session: &[u8]) -> Summary
     ensures { result ≡ specs.noted session.now before (avp_view avp.now) }
@@ -82,7 +64,7 @@ fn noted(before: Summary, avp: &Avp<'_>, session: &[u8]) -> Summary
     Summary {
         known: before.known && is_built_code(avp),
         session_ids: next_session_ids(before.session_ids, avp, session),
-        result: before.result.or(result_of(avp)),
+        result: before.result.or(number_of(avp, RESULT_CODE)),
     }
 }
 

@@ -1,9 +1,11 @@
 -- Octets that are a message are read as it, and what is read is what the octets are.
-use Rattle.std.proofs.Common.{◌≡◌, ℕ, ◌+◌, ◌%◌, ◌^◌, ◌<◌, ◌≤◌, Bool, true, false, cond, not, ◌&&◌, List, ◌∷◌, ◌++◌, length, get_or, take, drop, Result, Ok, Err, refl, sym, ap, subst, ◌∙◌, append_assoc, arith}
+use Rattle.std.proofs.Common.{◌≡◌, ℕ, ◌+◌, ◌%◌, ◌^◌, ◌<◌, ◌≤◌, Bool, true, false, cond, not, ◌&&◌, List, [], ◌∷◌, ◌++◌, length, get_or, take, drop, Result, Ok, Err, refl, sym, ap, subst, ◌∙◌, append_assoc, arith}
+use Rattle.std.specs.Prelude.{bit_or}
 use Rattle.std.specs.Int.{w32, to_be_bytes}
 use Rattle.std.proofs.lemmas.Bool.{ltb-false, le-ltb, eqb-true, eq-eqb}
-use Rattle.std.proofs.lemmas.List.{length-append, length-drop, take-append-drop, drop-drop, drop_more}
+use Rattle.std.proofs.lemmas.List.{length-append, length-take-le, length-drop, take-append-drop, drop-drop, drop_more}
 use Rattle.std.proofs.lemmas.List.Elements.{All-get_or}
+use Rattle.std.proofs.lemmas.Nat.{or_of_8}
 use Rattle.wire_core.specs.Numbers.{number, octets_at, u24, u32, AreOctets}
 use Rattle.wire_core.proofs.NumberLemmas.{number-u24, number-u32, to_be_bytes-24}
 use Rattle.diameter_avp.specs.Avps.{avps_text}
@@ -12,6 +14,7 @@ use Rattle.diameter_message.specs.declared.header.Header.{Header}
 use Rattle.diameter_message.specs.declared.fault.MessageFault.{MessageFault}
 use Rattle.diameter_message.specs.Message.{MessageParts, header_text, message_text, IsHeader, IsMessage, length_of, parts_of, read_message}
 use Rattle.diameter_message.specs.Writer.{MessageWriterParts, KeepsFront}
+use Rattle.diameter_message.specs.Retransmission.{sent_again}
 
 pub length-header_text : (size : ℕ) (h : Header) → length (header_text size h) ≡ 20
 unfolding header_text u24 u32
@@ -174,3 +177,28 @@ pub IsMessage-message_text : (h : Header) (avps : List ℕ) → IsHeader h → l
 IsMessage-message_text h avps is words short =
     let long = length-message_text h avps in
     record { header = is; text = refl; words = omega arith; counted = omega arith }
+
+-- ---- sending again
+
+pub length-message : (h : Header) (avps octets : List ℕ) → IsMessage octets h avps → 20 ≤ length octets
+length-message h avps octets is = omega (arith, ap length is.text, length-message_text h avps)
+
+pub length-overwritten : (octets once : List ℕ) (flags : ℕ) → 20 ≤ length octets → once ≡ take 4 octets ++ flags ∷ [] ++ drop 5 octets → length once ≡ length octets
+length-overwritten octets once flags long e =
+    omega (arith, ap length e, length-append (take 4 octets ++ flags ∷ []) (drop 5 octets), length-append (take 4 octets) (flags ∷ []), length-take-le 4 octets (omega arith), length-drop 5 octets)
+
+-- flags and hop are written over
+pub sent_again-text : (h : Header) (avps octets once bytes twice : List ℕ) (hop : ℕ) → octets ≡ message_text h avps → once ≡ take 4 octets ++ bit_or (get_or octets 4 0) 16 ∷ [] ++ drop 5 octets → bytes ≡ u32 hop → twice ≡ take 12 once ++ bytes ++ drop (12 + length bytes) once → twice ≡ message_text (sent_again h hop) avps
+unfolding message_text header_text u24 u32
+sent_again-text h avps octets once bytes twice hop text first e second = second ∙ rw (first, text, e) refl
+
+pub IsMessage-sent_again : (h : Header) (avps octets : List ℕ) (hop : ℕ) → hop < 2 ^ 32 → IsMessage octets h avps → IsMessage (message_text (sent_again h hop) avps) (sent_again h hop) avps
+IsMessage-sent_again h avps octets hop small is =
+    let before = ap length is.text ∙ length-message_text h avps in
+    let after = length-message_text (sent_again h hop) avps in
+    record {
+      header = record { flags = or_of_8 h.flags 16 is.header.flags (omega arith); command = is.header.command; application = is.header.application; hop = small; end = is.header.end };
+      text = refl;
+      words = ap (λ n. n % 4) (after ∙ sym before) ∙ is.words;
+      counted = omega (arith, is.counted);
+    }

@@ -1,7 +1,11 @@
+pub mod Finding
 pub mod Framing
 pub mod Lending
 pub mod Looking
 pub mod Message
+pub mod PlainAvps
+pub mod Results
+pub mod Retransmission
 pub mod Stream
 pub mod View
 pub mod Writer

@@ -9,19 +9,30 @@
 //! that were fed and of all messages that were given: a loop over pieces keeps `StandsFor` of the two.
 #![tactic(auto)]
 
+pub mod applications;
+pub mod avp_codes;
+pub mod command_codes;
+pub mod command_flags;
 mod fault;
+mod finding;
 mod framer;
 mod header;
 pub mod laws;
 mod message;
 mod next;
+mod plain_avps;
+mod results;
+mod retransmission;
 mod writer;
 
 pub use fault::{FrameFault, MessageFault};
+pub use finding::{find_avp, find_number, has_code, number_of};
 pub use framer::Framer;
 pub use header::Header;
 pub use message::{Message, parse};
 pub use next::Next;
+pub use results::{is_success, result_code};
+pub use retransmission::again;
 pub use writer::MessageWriter;
 
 #[cfg(test)]

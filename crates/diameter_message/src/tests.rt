@@ -276,3 +276,109 @@ fn ends_a_message_with_a_later_piece(rt: HostRuntime) -> Result<(), Fail> {
     assert_eq!(rt; framer.next_message()?, Next::Wait);
     Ok(())
 }
+
+// A message that is sent again, unless it can't be parsed.
+fn sent_again(alloc: Global, octets: &[u8], hop: u32) -> Result<Option<Octets>, NoMemory> {
+    match parse(octets) {
+        Ok(_) => Ok(Some(again(alloc, octets, hop)?)),
+        Err(_) => Ok(None),
+    }
+}
+
+#[test]
+fn sends_again(rt: HostRuntime) -> Result<(), Fail> {
+    // Flags R and P, then R, P and T; the second message has T before it is sent again.
+    let cases: [(u32, &[u8; 20]); 2] = [
+        (
+            0,
+            b"\x01\x00\x00\xac\xd0\x00\x01\x09\x00\x00\x00\x01\x00\x00\x00\x00\x00\x70\x00\x00",
+        ),
+        (
+            0x0102_0304,
+            b"\x01\x00\x00\xac\xd0\x00\x01\x09\x00\x00\x00\x01\x01\x02\x03\x04\x00\x70\x00\x00",
+        ),
+    ];
+    let mut octets = Octets::copy(rt.alloc(), REQUEST)?;
+    for (hop, header) in cases {
+        let sent = sent_again(rt.alloc(), octets.as_slice(), hop)?.unwrap_or(Octets::copy(
+            rt.alloc(),
+            b"",
+        )?);
+        assert_eq!(rt; sent.as_slice().len(), 172);
+        assert_eq!(rt; &sent.as_slice()[..20], header.as_slice());
+        assert_eq!(rt; &sent.as_slice()[20..], &REQUEST[20..]);
+        octets = sent;
+    }
+    Ok(())
+}
+
+// A watchdog request with a name of its product, of AVPs that have room.
+fn watchdog_with_room(alloc: Global, header: Header) -> Result<Octets, NoMemory>
+    requires { header.command < 2 ^ 24 }
+{
+    let mut writer = MessageWriter::new(alloc, header)?;
+    writer.put_origin(b"agent.example", b"example")?;
+    writer.put_number(278, 7)?;
+    writer.put_with_room(269, None, false, b"rd-agent")?;
+    Ok(writer.finish())
+}
+
+#[test]
+fn writes_plain_avps(rt: HostRuntime) -> Result<(), Fail> {
+    let header = Header {
+        flags: 0x80,
+        command: 280,
+        application: 0,
+        hop: 0x8000_0000,
+        end: 0x70_0000,
+    };
+    let octets = watchdog_with_room(rt.alloc(), header)?;
+    assert_eq!(rt; octets.len(), 88);
+    assert_eq!(rt; &octets.as_slice()[20..72], &WATCHDOG[20..]);
+    assert_eq!(rt;
+        &octets.as_slice()[72..],
+        b"\x00\x00\x01\x0d\x00\x00\x00\x10rd-agent".as_slice()
+    );
+    Ok(())
+}
+
+// A Result-Code of the vendor 0, one of three octets, 4001, 2001, a Session-Id of 17 octets, and one octet more.
+const MIXED: &[u8] = b"\x00\x00\x01\x0c\xc0\x00\x00\x10\x00\x00\x00\x00\x00\x00\x03\xe9\
+    \x00\x00\x01\x0c\x40\x00\x00\x0b\x00\x03\xe9\x00\
+    \x00\x00\x01\x0c\x40\x00\x00\x0c\x00\x00\x0f\xa1\
+    \x00\x00\x01\x0c\x00\x00\x00\x0c\x00\x00\x07\xd1\
+    \x00\x00\x01\x07\x40\x00\x00\x19agent.example;7;0\x00\x00\x00\
+    \x00";
+
+#[test]
+fn finds_avps(rt: HostRuntime) {
+    assert_eq!(rt; find_number(MIXED, avp_codes::RESULT_CODE), Some(4001));
+    assert_eq!(rt; find_number(MIXED, avp_codes::SESSION_ID), None);
+    let sizes = [
+        (0, 16, false),
+        (0, 17, true),
+        (17, 17, true),
+        (18, 4096, false),
+    ];
+    for (least, most, wanted) in sizes {
+        assert_eq!(rt;
+            find_avp(MIXED, avp_codes::SESSION_ID, least, most).is_some(),
+            wanted
+        );
+    }
+    match find_avp(MIXED, avp_codes::RESULT_CODE, 0, 4096) {
+        Some(avp) => {
+            assert_eq!(rt; avp.body, b"\x00\x03\xe9".as_slice());
+            assert!(rt; has_code(&avp, avp_codes::RESULT_CODE));
+            assert!(rt; !has_code(&avp, avp_codes::SESSION_ID));
+            assert_eq!(rt; number_of(&avp, avp_codes::RESULT_CODE), None);
+        }
+        None => assert!(rt; false),
+    }
+    assert_eq!(rt; result_code(MIXED), 0);
+    assert_eq!(rt; result_code(&MIXED[..80]), 4001);
+    assert_eq!(rt; result_code(&ANSWER[20..]), 2001);
+    for (code, wanted) in [(1999, false), (2000, true), (2999, true), (3000, false)] {
+        assert_eq!(rt; is_success(code), wanted);
+    }
+}

@@ -2,4 +2,3 @@ pub mod Messages
 pub mod Reading
 pub mod Rules
 pub mod Step
-pub mod Writing

@@ -1,21 +1,14 @@
 -- The messages that the link makes (RFC 6733, sections 5.3 to 5.5 and 6.2; the order of the AVPs is the profile's).
-use Rattle.std.specs.Prelude.{ℕ, Bool, true, false, List, [], ◌∷◌, ◌++◌, find, Option, Some, None, bit_and, bit_or, if◌then◌else◌, codes}
+use Rattle.std.specs.Prelude.{ℕ, Bool, false, List, [], ◌∷◌, ◌++◌, find, Option, Some, None, bit_and, bit_or, if◌then◌else◌, codes}
 use Rattle.wire_core.specs.Numbers.{u32}
 use Rattle.diameter_avp.specs.Avps.{AvpParts, made, avps_text, readable_avps}
 use Rattle.diameter_message.specs.declared.header.Header.{Header}
 use Rattle.diameter_message.specs.Message.{MessageParts, message_text}
+use Rattle.diameter_message.specs.Finding.{has_size}
+use Rattle.diameter_message.specs.PlainAvps.{origin_avps, plain_avp}
 use Rattle.peer_machine.specs.declared.messages.Names.{Names}
 use Rattle.peer_machine.specs.declared.words.BaseRequest.{BaseRequest}
 use Rattle.peer_machine.specs.declared.words.BaseRequest.TheVariants.{CapabilitiesExchange, DeviceWatchdog, DisconnectPeer}
-use Rattle.peer_machine.specs.Reading.{has_size}
-
--- an AVP with M set and V clear (section 4.1)
-abbrev pub plain_avp : ℕ → List ℕ → AvpParts
-plain_avp code body = made code None true body
-
--- Origin-Host, Origin-Realm
-abbrev pub origin : Names → List AvpParts
-origin names = plain_avp 264 names.host ∷ plain_avp 296 names.realm ∷ []
 
 -- an IPv4 address: its family and its octets (section 4.3.1)
 abbrev pub address_text : ℕ → List ℕ
@@ -56,7 +49,7 @@ request_header request hop end =
 
 unfoldable pub request_text : Names → BaseRequest → ℕ → ℕ → List ℕ
 request_text names request hop end =
-    message_text (request_header request hop end) (avps_text (origin names ++ details names request))
+    message_text (request_header request hop end) (avps_text (origin_avps names.host names.realm ++ details names request))
 
 -- ---- answers
 
@@ -76,7 +69,7 @@ session_avps (Some a) = plain_avp 263 a.body ∷ []
 -- Origin-Realm
 abbrev pub answer_avps : Names → List AvpParts → ℕ → List AvpParts
 answer_avps names avps code =
-    session_avps (find (has_size 263 0 4096) avps) ++ plain_avp 268 (u32 code) ∷ origin names
+    session_avps (find (has_size 263 0 4096) avps) ++ plain_avp 268 (u32 code) ∷ origin_avps names.host names.realm
 
 unfoldable pub answer_text : Names → MessageParts → ℕ → Bool → List ℕ
 answer_text names message code error =

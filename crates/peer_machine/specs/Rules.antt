@@ -2,6 +2,7 @@
 -- 6.2; RFC 3539, section 3.4; the phases and the choices are the profile's).
 use Rattle.std.specs.Prelude.{ℕ, ◌+◌, ◌%◌, Bool, true, false, nat_le, nat_lt, ◌&&◌, Option, Some, None, if◌then◌else◌}
 use Rattle.radius_packet.specs.declared.reasons.Reason.TheVariants.{WrongPhase, Unmatched}
+use Rattle.diameter_message.specs.Results.{is_success}
 use Rattle.peer_machine.specs.declared.Phase.{Phase}
 use Rattle.peer_machine.specs.declared.Phase.TheVariants.{Closed, Greeting, Serving, Closing}
 use Rattle.peer_machine.specs.declared.LinkCause.{LinkCause}
@@ -17,10 +18,6 @@ use Rattle.peer_machine.specs.declared.words.Act.TheVariants.{Nothing, Serve, Di
 use Rattle.peer_machine.specs.declared.words.LinkState.{LinkState}
 
 -- ---- what is done
-
--- 2000 to 2999 (RFC 6733, section 7.1)
-abbrev pub is_success : ℕ → Bool
-is_success result = nat_le 2000 result && nat_lt result 3000
 
 -- the answer to the capabilities exchange
 abbrev pub greeted : ℕ → Act

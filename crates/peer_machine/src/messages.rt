@@ -1,61 +1,28 @@
 //! The messages that the link makes (RFC 6733, sections 5.3 to 5.5 and 6.2).
 
-ghost use Rattle.std.specs.Prelude.{◌≡◌, ◌+◌, ◌≤◌, ◌<◌, ◌^◌, [], ◌∷◌, length, find, None, IfOk, OnOk};
-ghost use Rattle.wire_core.specs.Numbers.{u32 as text32};
-ghost use Rattle.diameter_avp.specs.Avps.{made, readable_avps};
+ghost use Rattle.std.specs.Prelude.{◌≡◌, ◌+◌, ◌≤◌, ◌<◌, ◌^◌, [], ◌∷◌, length, find, IfOk, OnOk};
+ghost use Rattle.diameter_avp.specs.Avps.{readable_avps};
+ghost use Rattle.diameter_message.specs.Finding.{has_size};
+ghost use Rattle.diameter_message.specs.PlainAvps.{plain_avp};
 ghost use Rattle.diameter_message.specs.View.{message_view};
+ghost use Rattle.diameter_message.specs.Writer.{list_length, Puts};
 ghost use Rattle.peer_machine.specs.Messages as specs;
 ghost use Rattle.peer_machine.specs.Messages.{answer_text, request_text};
-ghost use Rattle.peer_machine.specs.Reading.{has_size};
-ghost use Rattle.peer_machine.specs.Writing.{list_length, with_avps, Puts};
 
-use crate::reading::find_avp;
 use crate::words::BaseRequest;
-use diameter_avp::WriteFault;
-use diameter_message::{Header, Message, MessageWriter};
+use diameter_message::applications::{BASE_ACCOUNTING, COMMON, EAP, NASREQ};
+use diameter_message::avp_codes::{
+    ACCT_APPLICATION_ID, AUTH_APPLICATION_ID, DISCONNECT_CAUSE, HOST_IP_ADDRESS, ORIGIN_STATE_ID,
+    PRODUCT_NAME, RESULT_CODE, SESSION_ID, VENDOR_ID,
+};
+use diameter_message::command_codes::{CAPABILITIES_EXCHANGE, DEVICE_WATCHDOG, DISCONNECT_PEER};
+use diameter_message::command_flags::{ERROR, PROXIABLE, REQUEST};
+use diameter_message::{Header, Message, MessageWriter, find_avp};
 use std::alloc::Global;
 use wire_core::{NoMemory, Octets, put_u32};
 
-// The R flag (RFC 6733, section 3).
-pub(crate) const REQUEST: u8 = 0x80;
-
-// The P and E flags.
-const PROXIABLE: u8 = 0x40;
-
-const ERROR: u8 = 0x20;
-
 // The longest Session-Id that an answer repeats (profile).
 const LONGEST_SESSION: usize = 4096;
-
-// Commands of the base protocol.
-pub(crate) const CAPABILITIES_EXCHANGE: u32 = 257;
-
-pub(crate) const DEVICE_WATCHDOG: u32 = 280;
-
-pub(crate) const DISCONNECT_PEER: u32 = 282;
-
-// AVPs of the base protocol (RFC 6733, section 4.5).
-const HOST_IP_ADDRESS: u32 = 257;
-
-const AUTH_APPLICATION_ID: u32 = 258;
-
-const ACCT_APPLICATION_ID: u32 = 259;
-
-const SESSION_ID: u32 = 263;
-
-const ORIGIN_HOST: u32 = 264;
-
-const VENDOR_ID: u32 = 266;
-
-pub(crate) const RESULT_CODE: u32 = 268;
-
-const PRODUCT_NAME: u32 = 269;
-
-pub(crate) const DISCONNECT_CAUSE: u32 = 273;
-
-const ORIGIN_STATE_ID: u32 = 278;
-
-const ORIGIN_REALM: u32 = 296;
 
 /// Who the agent is to its peer: its identity and realm, its IPv4 address, and its Origin-State-Id.
 #[derive(Debug, Drop)]
@@ -66,46 +33,14 @@ pub struct Names {
     pub boot: u32,
 }
 
-/// Puts an AVP without a vendor at the end.
-fn put(writer: &mut MessageWriter, code: u32, mandatory: bool, body: &[u8]) -> Result<(), NoMemory>
-    requires { list_length writer.old + length body.now + 11 ≤ 65516 }
-    ensures { OnOk result (Puts writer.old writer.new (made code None mandatory body.now ∷ []) (length body.now + 11)) }
-{
-    match writer.put(code, None, mandatory, body) {
-        Ok(()) => Ok(()),
-        Err(WriteFault::NoMemory) => Err(NoMemory),
-        Err(WriteFault::TooLong) => unreachable!(),
-    }
-}
-
-fn put_number(writer: &mut MessageWriter, code: u32, value: u32) -> Result<(), NoMemory>
-    requires { list_length writer.old + 15 ≤ 65516 }
-    ensures { OnOk result (Puts writer.old writer.new (specs.plain_avp code (text32 value) ∷ []) 15) }
-{
-    let mut octets = [0; 4];
-    put_u32(&mut octets, 0, value);
-    put(writer, code, true, &octets)
-}
-
-/// Puts Origin-Host and Origin-Realm.
-fn put_origin(writer: &mut MessageWriter, names: &Names) -> Result<(), NoMemory>
-    requires few { list_length writer.old ≤ 5000 }
-    requires host { length names.now.host ≤ 255 }
-    requires realm { length names.now.realm ≤ 255 }
-    ensures { OnOk result (Puts writer.old writer.new (specs.origin names.now) 532) }
-{
-    put(writer, ORIGIN_HOST, true, names.host.as_slice())?;
-    put(writer, ORIGIN_REALM, true, names.realm.as_slice())
-}
-
 /// Puts the address of the agent: its family, 1 for IPv4, and its octets (RFC 6733, section 4.3.1).
 fn put_address(writer: &mut MessageWriter, address: u32) -> Result<(), NoMemory>
     requires { list_length writer.old ≤ 5600 }
-    ensures { OnOk result (Puts writer.old writer.new (specs.plain_avp 257 (specs.address_text address) ∷ []) 17) }
+    ensures { OnOk result (Puts writer.old writer.new (plain_avp 257 (specs.address_text address) ∷ []) 17) }
 {
     let mut octets = [0, 1, 0, 0, 0, 0];
     put_u32(&mut octets, 2, address);
-    put(writer, HOST_IP_ADDRESS, true, &octets)
+    writer.put_plain(HOST_IP_ADDRESS, &octets)
 }
 
 /// Puts the applications that the agent speaks: those of RFC 4005 and RFC 4072, and accounting.
@@ -113,9 +48,9 @@ fn put_applications(writer: &mut MessageWriter) -> Result<(), NoMemory>
     requires { list_length writer.old ≤ 6000 }
     ensures { OnOk result (Puts writer.old writer.new specs.applications 45) }
 {
-    put_number(writer, AUTH_APPLICATION_ID, 1)?;
-    put_number(writer, AUTH_APPLICATION_ID, 5)?;
-    put_number(writer, ACCT_APPLICATION_ID, 3)
+    writer.put_number(AUTH_APPLICATION_ID, NASREQ)?;
+    writer.put_number(AUTH_APPLICATION_ID, EAP)?;
+    writer.put_number(ACCT_APPLICATION_ID, BASE_ACCOUNTING)
 }
 
 /// Puts the product's name, which is not mandatory.
@@ -123,7 +58,7 @@ fn put_product_name(writer: &mut MessageWriter) -> Result<(), NoMemory>
     requires { list_length writer.old ≤ 5700 }
     ensures { OnOk result (Puts writer.old writer.new (specs.product_name ∷ []) 19) }
 {
-    put(writer, PRODUCT_NAME, false, b"rd-agent")
+    writer.put_with_room(PRODUCT_NAME, None, false, b"rd-agent")
 }
 
 /// Puts what the agent is: its address, no vendor, and its product's name.
@@ -132,7 +67,7 @@ fn put_product(writer: &mut MessageWriter, names: &Names) -> Result<(), NoMemory
     ensures { OnOk result (Puts writer.old writer.new (specs.product names.now) 51) }
 {
     put_address(writer, names.address)?;
-    put_number(writer, VENDOR_ID, 0)?;
+    writer.put_number(VENDOR_ID, 0)?;
     put_product_name(writer)
 }
 
@@ -142,7 +77,7 @@ fn put_capabilities(writer: &mut MessageWriter, names: &Names) -> Result<(), NoM
     ensures { OnOk result (Puts writer.old writer.new (specs.capabilities names.now) 130) }
 {
     put_product(writer, names)?;
-    put_number(writer, ORIGIN_STATE_ID, names.boot)?;
+    writer.put_number(ORIGIN_STATE_ID, names.boot)?;
     put_applications(writer)
 }
 
@@ -157,8 +92,8 @@ fn put_details(
 {
     match request {
         BaseRequest::CapabilitiesExchange => put_capabilities(writer, names),
-        BaseRequest::DeviceWatchdog => put_number(writer, ORIGIN_STATE_ID, names.boot),
-        BaseRequest::DisconnectPeer => put_number(writer, DISCONNECT_CAUSE, 0),
+        BaseRequest::DeviceWatchdog => writer.put_number(ORIGIN_STATE_ID, names.boot),
+        BaseRequest::DisconnectPeer => writer.put_number(DISCONNECT_CAUSE, 0),
     }
 }
 
@@ -188,12 +123,12 @@ pub(crate) fn write_request(
     let header = Header {
         flags: REQUEST,
         command: command_of(request),
-        application: 0,
+        application: COMMON,
         hop,
         end,
     };
     let mut writer = MessageWriter::new(alloc, header)?;
-    put_origin(&mut writer, names)?;
+    writer.put_origin(names.host.as_slice(), names.realm.as_slice())?;
     put_details(&mut writer, names, request)?;
     Ok(writer.finish())
 }
@@ -223,7 +158,7 @@ fn put_session(writer: &mut MessageWriter, avps: &[u8]) -> Result<(), NoMemory>
     ensures { OnOk result (Puts writer.old writer.new (specs.session_avps (find (has_size 263 0 4096) (readable_avps avps.now))) 4107) }
 {
     match find_avp(avps, SESSION_ID, 0, LONGEST_SESSION) {
-        Some(avp) => put(writer, SESSION_ID, true, avp.body),
+        Some(avp) => writer.put_plain(SESSION_ID, avp.body),
         None => Ok(()),
     }
 }
@@ -243,7 +178,7 @@ pub(crate) fn write_answer(
 {
     let mut writer = MessageWriter::new(alloc, answer_header(&message.header, error))?;
     put_session(&mut writer, message.avps)?;
-    put_number(&mut writer, RESULT_CODE, code)?;
-    put_origin(&mut writer, names)?;
+    writer.put_number(RESULT_CODE, code)?;
+    writer.put_origin(names.host.as_slice(), names.realm.as_slice())?;
     Ok(writer.finish())
 }

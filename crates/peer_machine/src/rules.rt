@@ -5,6 +5,7 @@ ghost use Rattle.peer_machine.specs.Rules as specs;
 
 use crate::words::{Act, BaseRequest, Event, LinkState, Said};
 use crate::{LinkCause, Phase};
+use diameter_message::is_success;
 use radius_packet::Reason;
 
 // Result codes (RFC 6733, section 7.1).
@@ -24,7 +25,7 @@ const WRONG_PHASE: Act = Act::Discard {
 fn greeted(code: u32) -> Act
     ensures { result ≡ specs.greeted code }
 {
-    if (2000..3000).contains(&code) {
+    if is_success(code) {
         Act::Serve
     } else {
         Act::Close {

@@ -3,7 +3,7 @@ use Rattle.std.proofs.Common.{length, ap, ◌∙◌, arith}
 use Rattle.std.specs.List.{flat_map}
 use Rattle.radius_packet.specs.Packet.{attributes_text}
 use Rattle.access_map.specs.Requests.{piece}
-use Rattle.access_map.specs.Writing.{with_avps}
+use Rattle.diameter_message.specs.Writer.{with_avps}
 use Rattle.access_map.proofs.requests.put_images.Goals as goal
 
 pub loop-attribute-init : goal.loop-attribute-init

@@ -2,7 +2,7 @@ use Rattle.std.proofs.Common.{◌≡◌, ◌+◌, ◌*◌, ◌≤◌, length}
 use Rattle.std.specs.List.{flat_map}
 use Rattle.radius_packet.specs.Packet.{attributes_text}
 use Rattle.access_map.specs.Requests.{piece}
-use Rattle.access_map.specs.Writing.{list_length, with_avps}
+use Rattle.diameter_message.specs.Writer.{list_length, with_avps}
 use Rattle.access_map.proofs.requests.put_images.Given as goal
 
 -- the images so far and those of what is left are all images, and those of what is left have room: an AVP

@@ -6,8 +6,8 @@ use Rattle.diameter_avp.specs.Avps.{avps_text}
 use Rattle.diameter_message.specs.Message.{message_text}
 use Rattle.diameter_message.specs.Writer.{MessageWriterParts}
 use Rattle.access_map.specs.Requests.{head, piece, access_image}
-use Rattle.access_map.specs.Writing.{with_avps}
-use Rattle.access_map.proofs.Room.{list_length-begun}
+use Rattle.diameter_message.specs.Writer.{with_avps}
+use Rattle.diameter_message.proofs.RoomLemmas.{list_length-begun}
 use Rattle.access_map.proofs.requests.request.Goals as goal
 
 pub put_head-requires-clause-empty : goal.put_head-requires-clause-empty

@@ -1,15 +1,15 @@
 -- What was put is the list of the answer.
-use Rattle.std.proofs.Common.{[], ◌∷◌, ap, ◌∙◌, arith, append_assoc}
+use Rattle.std.proofs.Common.{[], ◌∷◌, length, ap, ◌∙◌, arith, append_assoc}
 use Rattle.std.specs.Prelude.{find}
 use Rattle.wire_core.specs.Numbers.{u32}
 use Rattle.diameter_avp.specs.Avps.{avps_text, readable_avps}
 use Rattle.diameter_message.specs.declared.header.Header.{Header}
 use Rattle.diameter_message.specs.Message.{message_text}
-use Rattle.diameter_message.specs.Writer.{MessageWriterParts}
-use Rattle.peer_machine.specs.Messages.{plain_avp, origin, session_avps, answer_avps, answer_text}
-use Rattle.peer_machine.specs.Reading.{has_size}
-use Rattle.peer_machine.specs.Writing.{with_avps}
-use Rattle.peer_machine.proofs.Room.{list_length-begun}
+use Rattle.peer_machine.specs.Messages.{session_avps, answer_avps, answer_text}
+use Rattle.diameter_message.specs.Finding.{has_size}
+use Rattle.diameter_message.specs.PlainAvps.{origin_avps, plain_avp}
+use Rattle.diameter_message.specs.Writer.{MessageWriterParts, with_avps}
+use Rattle.diameter_message.proofs.RoomLemmas.{list_length-begun}
 use Rattle.peer_machine.proofs.messages.write_answer.Goals as goal
 
 pub put_session-requires : goal.put_session-requires
@@ -18,19 +18,23 @@ put_session-requires c = list_length-begun _ _ c.in_ok-writer.ensures
 pub put_number-requires : goal.put_number-requires
 put_number-requires c = omega (arith, list_length-begun _ _ c.in_ok-writer.ensures, c.in_ok-put_session.ensures.length)
 
-pub put_origin-requires-clause-few : goal.put_origin-requires-clause-few
-put_origin-requires-clause-few c = omega (arith, list_length-begun _ _ c.in_ok-writer.ensures, c.in_ok-put_session.ensures.length, c.in_ok-put_number.ensures.length)
+pub put_origin-requires : goal.put_origin-requires
+put_origin-requires c =
+    omega (arith, list_length-begun _ _ c.in_ok-writer.ensures, c.in_ok-put_session.ensures.length, c.in_ok-put_number.ensures.ok.length, ap length c.as_slice.ensures, ap length c.as_slice-2.ensures)
 
 pub returns : goal.returns
 unfolding answer_text
 returns c =
     let session = session_avps (find (has_size 263 0 4096) (readable_avps c.args.message.now.avps.now)) in
     let code = plain_avp 268 (u32 c.args.code) ∷ [] in
-    let names = origin c.args.names.now in
+    let names = c.args.names.now in
+    let last = origin_avps names.host names.realm in
+    let origin =
+    ap (λ host. origin_avps host c.as_slice-2.result.now) c.as_slice.ensures ∙ ap (origin_avps names.host) c.as_slice-2.ensures in
     let begun = c.in_ok-writer.ensures in
     let first = c.in_ok-put_session.ensures.list ∙ ap (λ w. with_avps w session) begun in
-    let second = c.in_ok-put_number.ensures.list ∙ ap (λ w. with_avps w code) first in
-    let whole = c.in_ok-put_origin.ensures.list ∙ ap (λ w. with_avps w names) second in
+    let second = c.in_ok-put_number.ensures.ok.list ∙ ap (λ w. with_avps w code) first in
+    let whole = c.in_ok-put_origin.ensures.ok.list ∙ ap (with_avps c.put_number.new.self) origin ∙ ap (λ w. with_avps w last) second in
     c.finish.ensures.text ∙ ap (λ (w : MessageWriterParts). message_text w.header (avps_text w.avps.list)) whole
-    ∙ ap (λ avps. message_text c.answer_header.result (avps_text avps)) (append_assoc session code names)
-    ∙ ap (λ (header : Header). message_text header (avps_text (answer_avps c.args.names.now (readable_avps c.args.message.now.avps.now) c.args.code))) c.answer_header.ensures
+    ∙ ap (λ avps. message_text c.answer_header.result (avps_text avps)) (append_assoc session code last)
+    ∙ ap (λ (header : Header). message_text header (avps_text (answer_avps names (readable_avps c.args.message.now.avps.now) c.args.code))) c.answer_header.ensures

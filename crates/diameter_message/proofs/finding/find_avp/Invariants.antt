@@ -2,8 +2,8 @@ use Rattle.std.proofs.Common.{◌≡◌}
 use Rattle.std.specs.Prelude.{find}
 use Rattle.std.specs.Result.{ok_prefix}
 use Rattle.diameter_avp.specs.Avps.{readable_avps}
-use Rattle.peer_machine.specs.Reading.{has_size}
-use Rattle.peer_machine.proofs.reading.find_avp.Given as goal
+use Rattle.diameter_message.specs.Finding.{has_size}
+use Rattle.diameter_message.proofs.finding.find_avp.Given as goal
 
 -- what is looked for is not among the AVPs so far
 abbrev pub invariant-loop-item : goal.invariant-loop-item
