@@ -1,13 +1,13 @@
 -- What one pass finds is what the whole list says.
 use Rattle.std.proofs.Common.{◌≡◌, ℕ, Bool, true, false, cond, ◌&&◌, List, [], ◌∷◌, Option, Some, None, refl, sym, ap, ◌∙◌}
 use Rattle.std.proofs.Math.Bool.{and_assoc, and-true}
-use Rattle.std.specs.Prelude.{fold, filter, find, option_map}
+use Rattle.std.specs.Prelude.{fold, filter}
 use Rattle.std.specs.Option.{option_or}
 use Rattle.std.specs.List.{list_all}
-use Rattle.wire_core.specs.Numbers.{number}
 use Rattle.diameter_avp.specs.declared.fault.AvpFault.{AvpFault}
 use Rattle.diameter_avp.specs.Avps.{AvpParts, avps_fault, readable_avps, read_avps, unless_fault}
-use Rattle.diameter_message.specs.Finding.{has_code, has_size}
+use Rattle.diameter_message.specs.Finding.{has_code, first_number}
+use Rattle.diameter_message.proofs.FindingLemmas.{first_number-step, or-none}
 use Rattle.access_map.specs.Answers.{is_built_code}
 use Rattle.access_map.specs.Summary.{session_ids_of, summary_of, summary_in, further_session_id, noted}
 use Rattle.access_map.specs.declared.summary.SessionIds.{SessionIds}
@@ -47,22 +47,10 @@ session_ids_of-fold session (a ∷ b ∷ rest) = rw second_is_other (other_stays
 
 -- ---- Result-Code
 
-abbrev numbers : Option AvpParts → Option ℕ
-numbers found = option_map (λ (a : AvpParts). number a.body) found
-
-result-step : (r : Option ℕ) (a : AvpParts) (b : Bool) (rest : Option AvpParts) → option_or (option_or r (cond b (Some (number a.body)) None)) (numbers rest) ≡ option_or r (numbers (cond b (Some a) rest))
-result-step None a true rest = refl
-result-step None a false rest = refl
-result-step (Some r) a b rest = refl
-
-or-none : (r : Option ℕ) → option_or r None ≡ r
-or-none None = refl
-or-none (Some r) = refl
-
-result-fold : (session : List ℕ) (s : Summary) (avps : List AvpParts) → (fold (noted session) s avps).result ≡ option_or s.result (numbers (find (has_size 268 4 4) avps))
+result-fold : (session : List ℕ) (s : Summary) (avps : List AvpParts) → (fold (noted session) s avps).result ≡ option_or s.result (first_number 268 avps)
 result-fold session s [] = sym (or-none s.result)
 result-fold session s (a ∷ avps) =
-    result-fold session (noted session s a) avps ∙ result-step s.result a (has_size 268 4 4 a) (find (has_size 268 4 4) avps)
+    result-fold session (noted session s a) avps ∙ first_number-step 268 s.result a avps
 
 -- ---- together
 

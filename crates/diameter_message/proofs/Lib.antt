@@ -1,3 +1,4 @@
+pub mod FindingLemmas
 pub mod MessageLemmas
 pub mod RoomLemmas
 pub mod StreamLemmas

@@ -5,8 +5,8 @@ ghost use Rattle.diameter_avp.specs.Avps.{read_avps};
 ghost use Rattle.diameter_message.specs.Results as specs;
 
 use crate::avp_codes::RESULT_CODE;
-use crate::finding::find_number;
-use diameter_avp::check_avps;
+use crate::finding::number_of;
+use diameter_avp::avps;
 
 /// Whether a Result-Code is one of success, 2000 to 2999 (RFC 6733, section 7.1).
 pub fn is_success(code: u32) -> bool
@@ -19,8 +19,12 @@ pub fn is_success(code: u32) -> bool
 pub fn result_code(octets: &[u8]) -> u32
     ensures { result ≡ specs.result_in (read_avps octets.now) }
 {
-    match check_avps(octets) {
-        Ok(()) => find_number(octets, RESULT_CODE).unwrap_or(0),
-        Err(_) => 0,
+    let mut found = None;
+    for item in avps(octets) {
+        let Ok(avp) = item else {
+            return 0;
+        };
+        found = found.or(number_of(&avp, RESULT_CODE));
     }
+    found.unwrap_or(0)
 }

@@ -1,24 +1,19 @@
--- The test of the AVPs is their reading.
-use Rattle.std.proofs.Common.{◌≡◌, Option, None, Some, Result, Ok, Err, refl, rules}
-use Rattle.diameter_avp.specs.declared.fault.AvpFault.{AvpFault}
-use Rattle.diameter_avp.specs.Avps.{avps_fault, unless_fault}
+use Rattle.std.proofs.Common.{◌≡◌, ◌∙◌, sym, ap, None, Some, [], unwrap_or, refl, rules}
+use Rattle.std.specs.Option.{option_or}
+use Rattle.diameter_avp.specs.Avps.{avps_fault, readable_avps}
 use Rattle.diameter_avp.proofs.CallerLemmas.{read_avps-none, read_avps-some}
+use Rattle.diameter_message.specs.Finding.{first_number}
+use Rattle.diameter_message.proofs.FindingLemmas.{or-none}
 use Rattle.diameter_message.proofs.results.result_code.Goals as goal
 
-no_fault : (fault : Option AvpFault) (u : Unit {0}) → (let r : Result (Unit {0}) AvpFault = Ok u in r ≡ unless_fault fault (tt {0})) → fault ≡ None
-no_fault None u e = refl
-no_fault (Some other) u e = absurd cc
+pub returns-in_default : goal.returns-in_default
+returns-in_default c =
+    let some : avps_fault c.args.octets.now ≡ Some c.in_default.field-0 = search rules in
+    rw (read_avps-some c.args.octets.now c.in_default.field-0 some) refl
 
-a_fault : (found : Option AvpFault) (fault : AvpFault) → (let r : Result (Unit {0}) AvpFault = Err fault in r ≡ unless_fault found (tt {0})) → found ≡ Some fault
-a_fault None fault e = absurd cc
-a_fault (Some other) fault e = cc
-
-pub returns-in-Ok : goal.returns-in-Ok
-returns-in-Ok c =
-    let none = no_fault (avps_fault c.args.octets.now) c.in-Ok.field-0 c.in-Ok.ensures.exact in
-    rw (read_avps-none c.args.octets.now none) (search rules)
-
-pub returns-in-Err : goal.returns-in-Err
-returns-in-Err c =
-    let some = a_fault (avps_fault c.args.octets.now) c.in-Err.field-0 c.in-Err.ensures.exact in
-    rw (read_avps-some c.args.octets.now c.in-Err.field-0 some) refl
+pub returns : goal.returns
+returns c =
+    let none : avps_fault c.args.octets.now ≡ None = search rules in
+    let found : option_or c.loop-item.found (first_number 268 []) ≡ first_number 268 (readable_avps c.args.octets.now) = search rules in
+    rw (read_avps-none c.args.octets.now none)
+    (c.unwrap_or.ensures ∙ ap (λ found. unwrap_or found 0) (sym (or-none c.loop-item.found) ∙ found))
