@@ -4,6 +4,7 @@ use Rattle.std.specs.Prelude.{IsTrue}
 use Rattle.std.proofs.lemmas.Bool.{and_parts, leb-true}
 use Rattle.agent_config.specs.declared.config.Config.{Config}
 use Rattle.agent_config.specs.Config.{are_settings_in_limits, is_name}
+use Rattle.agent_config.proofs.Limits.{settings_facts}
 
 pub record Limits (config : Config) : Type 0 where
   pub host : length config.host ≤ 64
@@ -15,18 +16,11 @@ is_name-short : (xs : List ℕ) → is_name xs ≡ true → length xs ≤ 64
 is_name-short xs e = leb-true _ _ (and_parts _ _ e).1
 
 pub limits : (config : Config) → IsTrue (are_settings_in_limits config) → Limits config
-unfolding are_settings_in_limits
 limits config within =
-    let six = and_parts _ _ within in
-    let five = and_parts _ _ six.0 in
-    let four = and_parts _ _ five.0 in
-    let three = and_parts _ _ four.0 in
-    let home = and_parts _ _ three.0 in
-    let host = and_parts _ _ home.0 in
-    let low = and_parts _ _ three.1 in
+    let facts = settings_facts config within in
     record {
-      host = is_name-short _ host.0;
-      home_realm = is_name-short _ home.1;
-      backlog = leb-true _ _ (and_parts _ _ five.1).1;
-      retention = let h : 1000 ≤ config.retention = leb-true _ _ low.0 in omega arith;
+      host = is_name-short _ facts.host;
+      home_realm = is_name-short _ facts.home_realm;
+      backlog = facts.backlog_high;
+      retention = omega (arith, facts.retention_low);
     }
