@@ -60,7 +60,7 @@ clients-stop client t ts e some = first-append (client_faults client t) _ ∙ rw
 -- ---- the faults of a document
 
 -- what its parts show
-abbrev parts : Option ConfigFault → Option ConfigFault → Option ConfigFault → Option ConfigFault
+abbrev pub parts : Option ConfigFault → Option ConfigFault → Option ConfigFault → Option ConfigFault
 parts top clients both = or_first top (or_first clients both)
 
 lone : (o : Option ConfigFault) → first (o ∷ []) ≡ o
@@ -68,7 +68,7 @@ lone None = refl
 lone (Some e) = refl
 
 module _ (t : Members) where
-  first-parts : first (faults t) ≡ parts (first (top_faults t)) (first (clients_faults 1 (client_tables t))) (twice (clients_of t))
+  pub first-parts : first (faults t) ≡ parts (first (top_faults t)) (first (clients_faults 1 (client_tables t))) (twice (clients_of t))
   unfolding top_faults
   first-parts =
       let clients = clients_faults 1 (client_tables t) in

@@ -2,5 +2,6 @@ mod FaultLemmas
 mod KeyLemmas
 pub mod Keyed
 pub mod Limits
+mod Settled
 pub mod Twice
 mod ValueLemmas

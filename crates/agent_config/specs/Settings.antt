@@ -1,5 +1,5 @@
 -- The settings of a TOML document, and the first fault that it shows (profile).
-use Rattle.std.specs.Prelude.{ℕ, ◌+◌, Bool, false, not, List, [], ◌∷◌, ◌++◌, map, filter, codes, bytes_eq, Option, None, Some, unwrap_or, option_map, option_and_then, Result, Ok, Err, if◌then◌else◌}
+use Rattle.std.specs.Prelude.{◌≡◌, ℕ, ◌+◌, Bool, false, not, List, [], ◌∷◌, ◌++◌, map, filter, codes, bytes_eq, Option, None, Some, unwrap_or, option_map, option_and_then, Result, Ok, Err, if◌then◌else◌}
 use Rattle.std.specs.Cmp.Lexicographic.{slice_cmp}
 use Rattle.std.specs.List.{list_any}
 use Rattle.std.specs.Option.{option_map_or}
@@ -11,7 +11,7 @@ use Rattle.agent_config.specs.declared.client.Client.{Client}
 use Rattle.agent_config.specs.declared.config.Config.{Config}
 use Rattle.agent_config.specs.declared.fault.ConfigFault.{ConfigFault}
 use Rattle.agent_config.specs.declared.fault.ConfigFault.TheVariants.{NotToml, Missing, BadValue}
-use Rattle.agent_config.specs.Config.{twice}
+use Rattle.agent_config.specs.Config.{twice, InLimits}
 use Rattle.agent_config.specs.Values.{each, name_of, secret_of, address_of, number_of, keys_choice_of, addresses_of, tables_of}
 
 -- ---- a key of a table
@@ -188,3 +188,7 @@ document text = if is_utf8 text then parse_document text else None
 -- the settings of a text, or its first fault
 abbrev pub settings_in : List ℕ → Result Config ConfigFault
 settings_in text = option_map_or settled (document text) (Err NotToml)
+
+-- the settings of a text are in limits
+abbrev pub SettingsAreInLimits : Type 0
+SettingsAreInLimits = (text : List ℕ) (config : Config) → settings_in text ≡ Ok config → InLimits config
