@@ -1,3 +1,7 @@
+mod FaultLemmas
+mod KeyLemmas
 pub mod Keyed
 pub mod Limits
+mod Settled
 pub mod Twice
+mod ValueLemmas

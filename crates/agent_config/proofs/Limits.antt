@@ -69,7 +69,7 @@ in_limits-at (c ∷ cs) (suc place) client all h =
 pub clients_are_in_limits : ClientsAreInLimits
 clients_are_in_limits config place client within h = in_limits-at config.clients place client within.clients h
 
-distinct-push : (first : ℕ) (clients : List Client) (client : Client) → are_addresses_distinct clients ≡ true → find_from client.address first clients ≡ None → are_addresses_distinct (clients ++ client ∷ []) ≡ true
+pub distinct-push : (first : ℕ) (clients : List Client) (client : Client) → are_addresses_distinct clients ≡ true → find_from client.address first clients ≡ None → are_addresses_distinct (clients ++ client ∷ []) ≡ true
 distinct-push first [] client distinct new = refl
 distinct-push first (c ∷ cs) client distinct new =
     elim (cases_Bool (eqb c.address client.address)) [
@@ -100,7 +100,7 @@ in_limits-new config settings none =
       distinct = rw none refl;
     }
 
-between : (low high n : ℕ) → is_between low high n ≡ true → (low ≤ n) × (n ≤ high)
+pub between : (low high n : ℕ) → is_between low high n ≡ true → (low ≤ n) × (n ≤ high)
 between low high n h =
     let p = and_parts (nat_le low n) (nat_le n high) h in
     (leb-true _ _ p.0, leb-true _ _ p.1)

@@ -1,11 +1,13 @@
 -- Clients one by one, and the first whose address an earlier one has.
-use Rattle.std.proofs.Common.{◌≡◌, ℕ, ◌+◌, Bool, true, false, cond, ◌||◌, eqb, List, [], ◌∷◌, ◌++◌, length, take, Option, None, Some, is_some, option_map, refl, sym, ap, ◌∙◌, length-append}
+use Rattle.std.proofs.Common.{◌≡◌, ℕ, ◌+◌, Bool, true, false, cond, ◌||◌, eqb, List, [], ◌∷◌, ◌++◌, length, take, Option, None, Some, is_some, option_map, refl, sym, ap, subst, ◌∙◌, inl, inr, append-nil, append_assoc, length-append}
+use Rattle.std.proofs.lemmas.Bool.{cases_Bool}
+use Rattle.std.proofs.lemmas.Option.{none-some}
 use Rattle.std.specs.List.{enumerate_from, find, list_any}
 use Rattle.agent_config.specs.declared.client.Client.{Client}
 use Rattle.agent_config.specs.declared.fault.ConfigFault.{ConfigFault}
 use Rattle.agent_config.specs.declared.fault.ConfigFault.TheVariants.{TwiceAddress}
-use Rattle.agent_config.specs.Config.{find_address, is_second, twice}
-use Rattle.agent_config.proofs.Limits.{find_from}
+use Rattle.agent_config.specs.Config.{are_addresses_distinct, find_address, is_second, twice, DistinctUnlessTwice}
+use Rattle.agent_config.proofs.Limits.{distinct-push, find_from}
 
 -- the first that comes second, among those from a place on, and among all
 abbrev pub seconds_from : List Client → ℕ → List Client → Option (ℕ × Client)
@@ -67,3 +69,27 @@ none-there (Some x) h = cc
 -- none of all comes second
 pub seconds-none : (all made : List Client) → seconds_from all (length made) [] ≡ seconds all → twice all ≡ None
 seconds-none all made same = ap (option_map (λ p. TwiceAddress (p.0 + 1))) (sym same)
+
+-- clients go on one by one, none of them second, so that their addresses stay distinct
+distinct-on : (all made left : List Client) → made ++ left ≡ all → seconds_from all (length made) left ≡ None
+    → are_addresses_distinct made ≡ true → are_addresses_distinct all ≡ true
+distinct-on all made [] is none distinct = subst (λ cs. are_addresses_distinct cs ≡ true) (sym (append-nil made) ∙ is) distinct
+distinct-on all made (c ∷ left) is none distinct =
+    elim (cases_Bool (is_some (find_address c.address made))) [
+      | inl found ↦ (let second : is_second all (length made, c) ≡ true = second-there all made (c ∷ left) c is ∙ found in
+          let here : seconds_from all (length made) (c ∷ left) ≡ Some (length made, c) = rw second refl in
+          absurd (none-some _ (sym none ∙ here)))
+      | inr new ↦ (let second : is_second all (length made, c) ≡ false = second-there all made (c ∷ left) c is ∙ new in
+          let on : seconds_from all (length made) (c ∷ left) ≡ seconds_from all (length made + 1) left = rw second refl in
+          let longer : length (made ++ c ∷ []) ≡ length made + 1 = simp length-append in
+          distinct-on all (made ++ c ∷ []) left (append_assoc made (c ∷ []) left ∙ is)
+          (ap (λ n. seconds_from all n left) longer ∙ sym on ∙ none)
+          (distinct-push 0 made c distinct (none-there _ new)))
+    ]
+
+twice-none : (o : Option (ℕ × Client)) → option_map (λ (p : ℕ × Client). TwiceAddress (p.0 + 1)) o ≡ None → o ≡ None
+twice-none None h = refl
+twice-none (Some p) h = cc
+
+pub distinct_unless_twice : DistinctUnlessTwice
+distinct_unless_twice clients none = distinct-on clients [] clients refl (twice-none _ none) refl

@@ -71,3 +71,7 @@ abbrev pub FoundStandsAtPlace : Type 0
 FoundStandsAtPlace = (clients : List Client) (address place : ℕ) (client : Client)
     → find_address address clients ≡ Some (place, client)
     → (client.address ≡ address) × (slice_get clients place ≡ Some client)
+
+-- where no client comes second, no two have one address
+abbrev pub DistinctUnlessTwice : Type 0
+DistinctUnlessTwice = (clients : List Client) → twice clients ≡ None → IsTrue (are_addresses_distinct clients)

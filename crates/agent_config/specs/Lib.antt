@@ -1,2 +1,4 @@
 pub mod Config
 pub mod Keyed
+pub mod Settings
+pub mod Values

@@ -1,5 +1,6 @@
 //! Why settings can't be read.
 
+use std::alloc::AllocFailed;
 use wire_core::{NoMemory, Octets};
 
 /// Why a text gives no settings (profile). A `client` is 0 for the top table, and i for the i-th
@@ -25,6 +26,17 @@ impl From<NoMemory> for ConfigFault {
     ghost from_gives = { λ _ e. e ≡ faults.NoMemory };
 
     fn from(_e: NoMemory) -> ConfigFault {
+        ConfigFault::NoMemory
+    }
+}
+
+impl<T: Drop> From<AllocFailed<T>> for ConfigFault {
+    ghost use Rattle.std.specs.Prelude.{◌≡◌};
+    ghost use Rattle.agent_config.specs.declared.fault.ConfigFault.TheVariants as faults;
+
+    ghost from_gives = { λ _ e. e ≡ faults.NoMemory };
+
+    fn from(_e: AllocFailed<T>) -> ConfigFault {
         ConfigFault::NoMemory
     }
 }

@@ -1,0 +1,179 @@
+//! Settings as a TOML document has them.
+
+ghost use Rattle.std.specs.Prelude.{◌≡◌, ◌≢◌, ◌≤◌, ◌^◌, ◌<◌, ◌+◌, None, Some, Ok, Err, [], length, map, codes, unwrap_or, IsSome, IfOk, IfErr};
+ghost use Rattle.toml.specs.Data.{as_table};
+ghost use Rattle.toml.specs.View.{items_view, table_view};
+ghost use Rattle.agent_config.specs.Values.{each, number_of, tables_of};
+ghost use Rattle.agent_config.specs.Settings.{allowed, at, client_faults, client_of, clients_faults, first, settings_in, settled, tables_in, top_faults, top_of};
+ghost use Rattle.agent_config.specs.declared.fault.ConfigFault.TheVariants as fault;
+
+use crate::client::Client;
+use crate::clients::Clients;
+use crate::config::Config;
+use crate::fault::ConfigFault;
+use crate::keys::{
+    address, addresses, client_tables, flag, keys_choice, name, name_or_none, no_others, number,
+    secret,
+};
+use std::alloc::Global;
+use toml::{Table, Value};
+use wire_core::Octets;
+
+/// The keys of the top table.
+const TOP_KEYS: [&str; 11] = [
+    "host",
+    "realm",
+    "home_realm",
+    "address",
+    "boot",
+    "retention_ms",
+    "capacity",
+    "backlog",
+    "watchdog_ms",
+    "patience_ms",
+    "clients",
+];
+
+/// The keys of a client's table.
+const CLIENT_KEYS: [&str; 8] = [
+    "name",
+    "address",
+    "secret",
+    "origin_host",
+    "origin_realm",
+    "require_seal",
+    "session_keys",
+    "nas_addresses",
+];
+
+/// The client of a table.
+#[tactic(auto, using(crate::proofs::FaultLemmas::first_passed, crate::proofs::FaultLemmas::first_stops), unfolding(crate::specs::Settings::client_faults, crate::specs::Settings::client_of))]
+fn read_client(alloc: Global, table: &Table, client: u32) -> Result<Client, ConfigFault>
+    ensures ok { IfOk result (λ c. (first (client_faults client (table_view table.now)) ≡ None)
+        × (c ≡ client_of (table_view table.now))) }
+    ensures err { IfErr result (λ e. e ≢ fault.NoMemory → first (client_faults client (table_view table.now)) ≡ Some e) }
+{
+    let made = Client {
+        name: name(alloc, table, client, "name")?,
+        address: address(alloc, table, client, "address")?,
+        secret: secret(alloc, table, client, "secret")?,
+        origin_host: name(alloc, table, client, "origin_host")?,
+        origin_realm: name(alloc, table, client, "origin_realm")?,
+        require_seal: flag(alloc, table, client, "require_seal")?.unwrap_or(false),
+        omit_keys: keys_choice(alloc, table, client, "session_keys")?.unwrap_or(false),
+        nas: addresses(alloc, table, client, "nas_addresses")?,
+    };
+    no_others(alloc, table, client, &CLIENT_KEYS)?;
+    Ok(made)
+}
+
+/// A number of the top table below 2^32, in a range, that may be missing.
+fn small_number(
+    alloc: Global,
+    table: &Table,
+    key: &str,
+    low: u32,
+    high: u32,
+) -> Result<Option<u32>, ConfigFault>
+    ensures ok { IfOk result (λ n. (allowed 0 key.now (number_of low high) (table_view table.now) ≡ None)
+        × (at key.now (number_of low high) (table_view table.now) ≡ n)) }
+    ensures err { IfErr result (λ e. e ≢ fault.NoMemory
+        → allowed 0 key.now (number_of low high) (table_view table.now) ≡ Some e) }
+{
+    match number(alloc, table, key, u64::from(low), u64::from(high))? {
+        Some(number) => Ok(Some(number as u32)),
+        None => Ok(None),
+    }
+}
+
+/// The settings of the top table, with no clients yet, and the tables of the clients.
+#[tactic(auto, using(crate::proofs::FaultLemmas::first_passed, crate::proofs::FaultLemmas::first_stops), unfolding(crate::specs::Settings::top_faults, crate::specs::Settings::top_of))]
+fn read_top(alloc: Global, table: &Table) -> Result<(Config, &[Value]), ConfigFault>
+    ensures ok { IfOk result (λ read. (first (top_faults (table_view table.now)) ≡ None)
+        × (read.0 ≡ top_of (table_view table.now))) }
+    ensures tables { IfOk result (λ read. at (codes "clients") tables_of (table_view table.now) ≡ each as_table (items_view read.1.now)) }
+    ensures some { IfOk result (λ read. IsSome (each as_table (items_view read.1.now))) }
+    ensures few { IfOk result (λ read. length read.1.now ≤ 1024) }
+    ensures err { IfErr result (λ e. e ≢ fault.NoMemory → first (top_faults (table_view table.now)) ≡ Some e) }
+{
+    let host = name(alloc, table, 0, "host")?;
+    let realm = name(alloc, table, 0, "realm")?;
+    let home_realm = match name_or_none(alloc, table, 0, "home_realm")? {
+        Some(home_realm) => home_realm,
+        None => Octets::copy(alloc, realm.as_slice())?,
+    };
+    let address = address(alloc, table, 0, "address")?;
+    let boot = small_number(alloc, table, "boot", 0, u32::MAX)?;
+    let retention = number(alloc, table, "retention_ms", 1_000, 300_000)?.unwrap_or(30_000);
+    let capacity = small_number(alloc, table, "capacity", 1, 65_536)?.unwrap_or(4_096);
+    let backlog = small_number(alloc, table, "backlog", 2, 65_536)?.unwrap_or(4_096);
+    let watchdog = number(alloc, table, "watchdog_ms", 6_000, 600_000)?.unwrap_or(30_000);
+    let patience = number(alloc, table, "patience_ms", 1_000, 300_000)?.unwrap_or(retention);
+    let tables = client_tables(alloc, table)?;
+    no_others(alloc, table, 0, &TOP_KEYS)?;
+    let config = Config {
+        host,
+        realm,
+        home_realm,
+        address,
+        boot,
+        retention,
+        patience,
+        capacity,
+        backlog,
+        watchdog,
+        clients: Clients::new(alloc),
+    };
+    Ok((config, tables))
+}
+
+/// The clients of some tables.
+fn read_clients(alloc: Global, tables: &[Value]) -> Result<Vec<Client>, ConfigFault>
+    requires some { IsSome (each as_table (items_view tables.now)) }
+    requires few { length tables.now ≤ 1024 }
+    ensures ok { IfOk result (λ clients. (first (clients_faults 1 (tables_in (items_view tables.now))) ≡ None)
+        × (clients.items ≡ map client_of (tables_in (items_view tables.now)))) }
+    ensures few { IfOk result (λ clients. length clients.items ≤ 1024) }
+    ensures err { IfErr result (λ e. e ≢ fault.NoMemory
+        → first (clients_faults 1 (tables_in (items_view tables.now))) ≡ Some e) }
+{
+    let mut clients = Vec::new(alloc);
+    for (place, value) in tables.iter().enumerate() {
+        let Some(table) = value.as_table() else {
+            unreachable!();
+        };
+        clients.push(read_client(alloc, table, place as u32 + 1)?)?;
+    }
+    Ok(clients)
+}
+
+/// The settings of a document.
+fn read_table(alloc: Global, table: &Table) -> Result<Config, ConfigFault>
+    ensures ok { IfOk result (λ config. settled (table_view table.now) ≡ Ok config) }
+    ensures err { IfErr result (λ e. e ≢ fault.NoMemory → settled (table_view table.now) ≡ Err e) }
+{
+    let (mut config, tables) = read_top(alloc, table)?;
+    let clients = read_clients(alloc, tables)?;
+    config.clients = Clients::from_vec(alloc, clients)?;
+    Ok(config)
+}
+
+/// The settings of a TOML document, or the first of its faults: not being TOML in UTF-8, then the
+/// keys of the top table in their order, each first missing, then bad, then unknown keys in the
+/// order of their octets, then each client the same way, then an address that comes twice
+/// (profile).
+pub fn read(alloc: Global, text: &[u8]) -> Result<Config, ConfigFault>
+    ensures ok { IfOk result (λ config. settings_in text.now ≡ Ok config) }
+    ensures err { IfErr result (λ e. e ≢ fault.NoMemory → settings_in text.now ≡ Err e) }
+{
+    match toml::table_from_slice(alloc, text) {
+        Ok(table) => read_table(alloc, &table),
+        Err(e) => {
+            if e.is_memory() {
+                Err(ConfigFault::NoMemory)
+            } else {
+                Err(ConfigFault::NotToml)
+            }
+        }
+    }
+}
