@@ -160,15 +160,15 @@ const KEYS: [(u32, &str, &str, u32); 83] = [
 
 #[test]
 fn keys(rt: HostRuntime) -> Result<(), Fail> {
-    for (client, key, line, number) in KEYS {
+    for case in &KEYS {
+        let (client, key, line, number) = (case.0, case.1, case.2, case.3);
         let text = document(rt.alloc(), client, key, line)?;
         let read = read(rt.alloc(), text.as_bytes());
-        let wanted = if number < 2 {
-            (number, 0, b"".as_slice())
-        } else {
-            (number, client, key.as_bytes())
-        };
-        assert_eq!(rt; fault(&read), wanted, "{line}");
+        let shown = fault(&read);
+        assert_eq!(rt; shown.0, number, "{line}");
+        if 1 < number {
+            assert_eq!(rt; (shown.1, shown.2), (client, key.as_bytes()), "{line}");
+        }
     }
     Ok(())
 }
@@ -181,73 +181,83 @@ const FIRST: &str =
 const SECOND: &str =
     "[[clients]]\nname = 'nas2'\naddress = '192.168.1.17'\nsecret = 'arctangent'\norigin_host = 'nas2.example'\norigin_realm = 'example'\n";
 
-/// The parts of a document, and the number, the client and the key of its first fault.
-const DOCUMENTS: [([&str; 3], (u32, u32, &str)); 27] = [
-    ([TOP, FIRST, SECOND], (0, 0, "")),
-    ([TOP, "clients = []", ""], (0, 0, "")),
+/// The three parts of a document, and the number, the client and the key of its first fault.
+const DOCUMENTS: [(&str, &str, &str, u32, u32, &str); 27] = [
+    (TOP, FIRST, SECOND, 0, 0, ""),
+    (TOP, "clients = []", "", 0, 0, ""),
     // No TOML.
-    (["host = ", "", ""], (1, 0, "")),
-    (["host = 'a'\nhost = 'b'", "", ""], (1, 0, "")),
-    ([TOP, FIRST, "[clients]"], (1, 0, "")),
+    ("host = ", "", "", 1, 0, ""),
+    ("host = 'a'\nhost = 'b'", "", "", 1, 0, ""),
+    (TOP, FIRST, "[clients]", 1, 0, ""),
     // The clients.
-    ([TOP, "", ""], (2, 0, "clients")),
-    ([TOP, "clients = {}", ""], (3, 0, "clients")),
-    ([TOP, "clients = [1]", ""], (3, 0, "clients")),
-    ([TOP, "[clients]\nname = 'nas1'", ""], (3, 0, "clients")),
-    ([TOP, "[[clients]]", ""], (2, 1, "name")),
+    (TOP, "", "", 2, 0, "clients"),
+    (TOP, "clients = {}", "", 3, 0, "clients"),
+    (TOP, "clients = [1]", "", 3, 0, "clients"),
+    (TOP, "[clients]\nname = 'nas1'", "", 3, 0, "clients"),
+    (TOP, "[[clients]]", "", 2, 1, "name"),
     // The first of two faults.
-    (["", "", ""], (2, 0, "host")),
-    (["host = 'a'", "", ""], (2, 0, "realm")),
-    (["host = 1\nboot = -1", "", ""], (3, 0, "host")),
-    (["realm = 1", "", ""], (2, 0, "host")),
+    ("", "", "", 2, 0, "host"),
+    ("host = 'a'", "", "", 2, 0, "realm"),
+    ("host = 1\nboot = -1", "", "", 3, 0, "host"),
+    ("realm = 1", "", "", 2, 0, "host"),
     (
-        [TOP, "patience_ms = 0\nwatchdog_ms = 0\n", FIRST],
-        (3, 0, "watchdog_ms"),
+        TOP,
+        "patience_ms = 0\nwatchdog_ms = 0\n",
+        FIRST,
+        3,
+        0,
+        "watchdog_ms",
     ),
+    (TOP, "patience_ms = 0\na = 0\n", FIRST, 3, 0, "patience_ms"),
+    (TOP, "a = 0\nclients = 1", "", 3, 0, "clients"),
+    (TOP, "zz = 0\nab = 0\nabc = 0\n", FIRST, 3, 0, "ab"),
+    (TOP, "alpha = 0\nZeta = 0\n", FIRST, 3, 0, "Zeta"),
+    (TOP, "alpha = 0\n", "[[clients]]", 3, 0, "alpha"),
+    (TOP, "[[clients]]\nb = 0\n", SECOND, 2, 1, "name"),
     (
-        [TOP, "patience_ms = 0\na = 0\n", FIRST],
-        (3, 0, "patience_ms"),
+        TOP,
+        FIRST,
+        "require_seal = 0\nb = 0\na = 0",
+        3,
+        1,
+        "require_seal",
     ),
-    ([TOP, "a = 0\nclients = 1", ""], (3, 0, "clients")),
-    ([TOP, "zz = 0\nab = 0\nabc = 0\n", FIRST], (3, 0, "ab")),
-    ([TOP, "alpha = 0\nZeta = 0\n", FIRST], (3, 0, "Zeta")),
-    ([TOP, "alpha = 0\n", "[[clients]]"], (3, 0, "alpha")),
-    ([TOP, "[[clients]]\nb = 0\n", SECOND], (2, 1, "name")),
-    (
-        [TOP, FIRST, "require_seal = 0\nb = 0\na = 0"],
-        (3, 1, "require_seal"),
-    ),
-    ([TOP, FIRST, "b = 0\na = 0\n[[clients]]"], (3, 1, "a")),
-    ([TOP, FIRST, "[[clients]]\nsecret = 1"], (2, 2, "name")),
+    (TOP, FIRST, "b = 0\na = 0\n[[clients]]", 3, 1, "a"),
+    (TOP, FIRST, "[[clients]]\nsecret = 1", 2, 2, "name"),
     // One address twice.
-    ([TOP, FIRST, FIRST], (4, 2, "")),
+    (TOP, FIRST, FIRST, 4, 2, ""),
     (
-        [
-            TOP,
-            FIRST,
-            "[[clients]]\nname = 'nas2'\naddress = '192.168.1.16'\nsecret = ''\norigin_host = 'a'\norigin_realm = 'b'",
-        ],
-        (3, 2, "secret"),
+        TOP,
+        FIRST,
+        "[[clients]]\nname = 'nas2'\naddress = '192.168.1.16'\nsecret = ''\norigin_host = 'a'\norigin_realm = 'b'",
+        3,
+        2,
+        "secret",
     ),
     (
-        [
-            TOP,
-            SECOND,
-            "[[clients]]\nname = 'a'\naddress = '1.1.1.1'\nsecret = 'a'\norigin_host = 'a'\norigin_realm = 'a'\n[[clients]]\nname = 'b'\naddress = '192.168.1.17'\nsecret = 'b'\norigin_host = 'b'\norigin_realm = 'b'\n[[clients]]\nname = 'c'\naddress = '1.1.1.1'\nsecret = 'c'\norigin_host = 'c'\norigin_realm = 'c'",
-        ],
-        (4, 3, ""),
+        TOP,
+        SECOND,
+        "[[clients]]\nname = 'a'\naddress = '1.1.1.1'\nsecret = 'a'\norigin_host = 'a'\norigin_realm = 'a'\n[[clients]]\nname = 'b'\naddress = '192.168.1.17'\nsecret = 'b'\norigin_host = 'b'\norigin_realm = 'b'\n[[clients]]\nname = 'c'\naddress = '1.1.1.1'\nsecret = 'c'\norigin_host = 'c'\norigin_realm = 'c'",
+        4,
+        3,
+        "",
     ),
 ];
 
+fn joined(alloc: Global, first: &str, second: &str, third: &str) -> Result<String, AllocError> {
+    let mut text = String::from_str(alloc, first)?;
+    text.push_str(second)?;
+    text.push_str(third)?;
+    Ok(text)
+}
+
 #[test]
 fn documents(rt: HostRuntime) -> Result<(), Fail> {
-    for (parts, (number, client, key)) in DOCUMENTS {
-        let mut text = String::new(rt.alloc());
-        for part in parts {
-            text.push_str(part)?;
-        }
+    for case in &DOCUMENTS {
+        let text = joined(rt.alloc(), case.0, case.1, case.2)?;
         let read = read(rt.alloc(), text.as_bytes());
-        assert_eq!(rt; fault(&read), (number, client, key.as_bytes()), "{text}");
+        let (number, client, key) = (case.3, case.4, case.5.as_bytes());
+        assert_eq!(rt; fault(&read), (number, client, key), "{text}");
     }
     let read = read(rt.alloc(), b"host = '\xff'");
     assert!(rt; fault(&read) == (1, 0, b"".as_slice()));
@@ -370,6 +380,7 @@ fn values(rt: HostRuntime) -> Result<(), Fail> {
         (1_500, 1_500, 64, 2, 6_000)
     );
     let clients = config.clients;
+    assert_eq!(rt; clients.len(), 1);
     assert!(rt; clients.by_address(0x0a00_0009).is_none());
     let client = clients.at(0);
     assert!(rt; client.secret.as_slice() == b"\\u0001e".as_slice());
