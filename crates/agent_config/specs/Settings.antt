@@ -75,7 +75,7 @@ client_keys =
     codes "name" ∷ codes "address" ∷ codes "secret" ∷ codes "origin_host" ∷ codes "origin_realm"
     ∷ codes "require_seal" ∷ codes "session_keys" ∷ codes "nas_addresses" ∷ []
 
--- milliseconds in the last two, as in retention_ms
+-- those of the top table
 unfoldable pub top_faults : Members → List (Option ConfigFault)
 top_faults t =
     needed 0 (codes "host") name_of t

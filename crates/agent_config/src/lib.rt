@@ -21,6 +21,7 @@ pub use laws::{
     settings_are_in_limits,
 };
 pub use reading::read;
+pub use values::read_address;
 
 #[cfg(test)]
 mod tests;

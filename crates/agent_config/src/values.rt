@@ -38,8 +38,8 @@ pub(crate) fn secret_in(value: &Value) -> Option<&[u8]>
     }
 }
 
-/// An IPv4 address with dots.
-pub(crate) fn read_address(text: &[u8]) -> Option<u32>
+/// An IPv4 address: four decimal numbers up to 255, without leading zeros, with dots between them.
+pub fn read_address(text: &[u8]) -> Option<u32>
     ensures { result ≡ values.address_in text.now }
 {
     match Ipv4Addr::parse_ascii(text) {

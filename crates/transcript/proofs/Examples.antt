@@ -1,6 +1,7 @@
 -- The definitions on lines and octets from outside.
 use Rattle.std.proofs.Common.{◌≡◌, [], ◌∷◌, false, Some, codes, refl}
 use Rattle.std.specs.Fmt.{digits}
+use Rattle.std.specs.Net.Reader.{read_number, read_octet, read_ipv4}
 use Rattle.wire_core.specs.Numbers.{number, u32}
 use Rattle.hex.specs.Hex.{decode_pairs, encode_with}
 use Rattle.radius_packet.specs.declared.reasons.Via.TheVariants.{Auth}
@@ -27,7 +28,7 @@ agent_line-example : agent_line (codes "agent agent.example example example 192.
   watchdog = 30000;
   clients = [];
 })
-unfolding number are_settings_in_limits
+unfolding number read_number read_octet read_ipv4 are_settings_in_limits
 agent_line-example = refl
 
 client_line-example : lone_client_line (codes "client nas1 192.168.1.16 78797a7a7935343631 nas1.example example plain refuse -") ≡ Some (record {
@@ -40,7 +41,7 @@ client_line-example : lone_client_line (codes "client nas1 192.168.1.16 78797a7a
   omit_keys = false;
   nas = [];
 })
-unfolding number decode_pairs is_client_in_limits
+unfolding number read_number read_octet read_ipv4 decode_pairs is_client_in_limits
 client_line-example = refl
 
 event_line-ready : event_line (codes "0 ready") ≡ Some (record { moment = 0; input = Ready })
@@ -48,7 +49,7 @@ event_line-ready = refl
 
 event_line-auth : event_line (codes "1000 auth 192.168.1.16 1812 01050026000102030405060708090a0b0c0d0e0f01066e656d6f20066e617331050600000003")
     ≡ Some (record { moment = 1000; input = Datagram Auth 3232235792 1812 (1 ∷ 5 ∷ 0 ∷ 38 ∷ 0 ∷ 1 ∷ 2 ∷ 3 ∷ 4 ∷ 5 ∷ 6 ∷ 7 ∷ 8 ∷ 9 ∷ 10 ∷ 11 ∷ 12 ∷ 13 ∷ 14 ∷ 15 ∷ 1 ∷ 6 ∷ 110 ∷ 101 ∷ 109 ∷ 111 ∷ 32 ∷ 6 ∷ 110 ∷ 97 ∷ 115 ∷ 49 ∷ 5 ∷ 6 ∷ 0 ∷ 0 ∷ 0 ∷ 3 ∷ []) })
-unfolding number decode_pairs
+unfolding number read_number read_octet read_ipv4 decode_pairs
 event_line-auth = refl
 
 output_line-reply : output_line 5 (Reply Auth 3232235792 1812 (2 ∷ 5 ∷ 0 ∷ 66 ∷ 251 ∷ 207 ∷ 191 ∷ 42 ∷ 179 ∷ 189 ∷ 244 ∷ 7 ∷ 246 ∷ 211 ∷ 113 ∷ 131 ∷ 181 ∷ 139 ∷ 0 ∷ 22 ∷ 80 ∷ 18 ∷ 151 ∷ 15 ∷ 117 ∷ 200 ∷ 47 ∷ 3 ∷ 253 ∷ 99 ∷ 88 ∷ 88 ∷ 134 ∷ 77 ∷ 13 ∷ 197 ∷ 136 ∷ 168 ∷ 25 ∷ 28 ∷ 68 ∷ 105 ∷ 97 ∷ 109 ∷ 101 ∷ 116 ∷ 101 ∷ 114 ∷ 47 ∷ 97 ∷ 103 ∷ 101 ∷ 110 ∷ 116 ∷ 46 ∷ 101 ∷ 120 ∷ 97 ∷ 109 ∷ 112 ∷ 108 ∷ 101 ∷ 59 ∷ 55 ∷ 59 ∷ 48 ∷ []))

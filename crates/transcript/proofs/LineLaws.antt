@@ -7,8 +7,9 @@ use Rattle.std.proofs.lemmas.List.{length-map}
 use Rattle.agent_config.specs.declared.client.Client.{Client}
 use Rattle.agent_config.specs.declared.config.Config.{Config}
 use Rattle.agent_config.specs.Config.{InLimits, ClientInLimits, find_address, are_settings_in_limits, is_client_in_limits}
+use Rattle.agent_config.specs.Values.{address_in}
 use Rattle.agent_core.specs.History.{Event}
-use Rattle.transcript.specs.Words.{◌>>=◌, address_word, addresses_word, choice_word, hex_word, number_word, words_of}
+use Rattle.transcript.specs.Words.{◌>>=◌, addresses_word, choice_word, hex_word, number_word, words_of}
 use Rattle.transcript.specs.Lines.{admitted, agent_line, client_in_limits, client_line, client_of, in_limits, lone_client_line, settings_of, words_after}
 use Rattle.transcript.specs.Reading.{new_client, with_new_address}
 use Rattle.transcript.specs.declared.line.Line.{Line}
@@ -78,7 +79,7 @@ bare-in config found none e =
 
 settings-bare : (words : List (List ℕ)) (config : Config) → settings_of words ≡ Some config → Bare config
 settings-bare (host ∷ realm ∷ home ∷ address ∷ boot ∷ retention ∷ capacity ∷ backlog ∷ watchdog ∷ []) config e =
-    let (a, _, e1) = bind-some (address_word address) _ config e in
+    let (a, _, e1) = bind-some (address_in address) _ config e in
     let (b, _, e2) = bind-some (number_word 4294967295 boot) _ config e1 in
     let (r, _, e3) = bind-some (number_word 18446744073709551615 retention) _ config e2 in
     let (c, _, e4) = bind-some (number_word 4294967295 capacity) _ config e3 in
@@ -100,7 +101,7 @@ limits-in client found e =
 
 client-limits : (words : List (List ℕ)) (client : Client) → client_of words ≡ Some client → ClientInLimits client
 client-limits (name ∷ address ∷ secret ∷ host ∷ realm ∷ seal ∷ keys ∷ nas ∷ []) client e =
-    let (a, _, e1) = bind-some (address_word address) _ client e in
+    let (a, _, e1) = bind-some (address_in address) _ client e in
     let (s, _, e2) = bind-some (hex_word secret) _ client e1 in
     let (r, _, e3) = bind-some (choice_word (codes "seal") (codes "plain") seal) _ client e2 in
     let (o, _, e4) = bind-some (choice_word (codes "omit") (codes "refuse") keys) _ client e3 in

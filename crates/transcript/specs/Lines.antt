@@ -7,10 +7,11 @@ use Rattle.diameter_message.specs.Message.{read_message}
 use Rattle.agent_config.specs.declared.client.Client.{Client}
 use Rattle.agent_config.specs.declared.config.Config.{Config}
 use Rattle.agent_config.specs.Config.{find_address, is_client_in_limits, are_settings_in_limits, with_client}
+use Rattle.agent_config.specs.Values.{address_in}
 use Rattle.agent_core.specs.declared.events.Input.{Input}
 use Rattle.agent_core.specs.declared.events.Input.TheVariants.{Datagram, Ready, Message}
 use Rattle.agent_core.specs.History.{Event}
-use Rattle.transcript.specs.Words.{◌>>=◌, lines_of, words_of, number_word, address_word, hex_word, choice_word, addresses_word}
+use Rattle.transcript.specs.Words.{◌>>=◌, lines_of, words_of, number_word, hex_word, choice_word, addresses_word}
 
 -- the words after the first one, which has to be this
 abbrev pub words_after : List ℕ → List (List ℕ) → Option (List (List ℕ))
@@ -25,7 +26,7 @@ in_limits config = if are_settings_in_limits config then Some config else None
 -- the settings that the words after `agent` stand for, with no clients; the patience is the retention
 abbrev pub settings_of : List (List ℕ) → Option Config
 settings_of (host ∷ realm ∷ home ∷ address ∷ boot ∷ retention ∷ capacity ∷ backlog ∷ watchdog ∷ []) = do
-  address ← address_word address
+  address ← address_in address
   boot ← number_word 4294967295 boot
   retention ← number_word 18446744073709551615 retention
   capacity ← number_word 4294967295 capacity
@@ -59,7 +60,7 @@ client_in_limits client = if is_client_in_limits client then Some client else No
 -- the client that the words after `client` stand for
 abbrev pub client_of : List (List ℕ) → Option Client
 client_of (name ∷ address ∷ secret ∷ host ∷ realm ∷ seal ∷ keys ∷ nas ∷ []) = do
-  address ← address_word address
+  address ← address_in address
   secret ← hex_word secret
   require_seal ← choice_word (codes "seal") (codes "plain") seal
   omit_keys ← choice_word (codes "omit") (codes "refuse") keys
@@ -101,7 +102,7 @@ ready_of (word ∷ words) = None
 
 abbrev pub datagram_of : List (List ℕ) → Option Input
 datagram_of (address ∷ port ∷ hex ∷ []) = do
-  address ← address_word address
+  address ← address_in address
   port ← number_word 65535 port
   octets ← hex_word hex
   Some (Datagram Auth address port octets)

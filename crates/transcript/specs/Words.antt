@@ -1,12 +1,12 @@
 -- Lines, words, and what a word stands for (profile).
-use Rattle.std.specs.Prelude.{ℕ, Bool, true, false, ◌==◌, nat_le, not, ◌&&◌, ◌||◌, List, [], ◌∷◌, length, codes, slice_index, Option, Some, None, option_map, if◌then◌else◌}
+use Rattle.std.specs.Prelude.{ℕ, Bool, true, false, ◌==◌, nat_le, not, ◌&&◌, ◌||◌, List, [], ◌∷◌, length, codes, slice_index, Option, Some, None, if◌then◌else◌}
 use Rattle.std.specs.Result.{result_ok}
 use Rattle.std.specs.Char.{is_ascii_digit}
 use Rattle.std.specs.List.{list_all}
 use Rattle.std.specs.Str.{bytes_eq}
 use Rattle.std.specs.Str.Parse.{digits_value}
-use Rattle.wire_core.specs.Numbers.{number}
 use Rattle.hex.specs.Hex.{decode_of}
+use Rattle.agent_config.specs.Values.{address_in}
 
 -- an octet in front of pieces: a separator ends an empty piece, another octet joins the first piece
 abbrev pub in_front : Bool → ℕ → List (List ℕ) → List (List ℕ)
@@ -44,20 +44,6 @@ abbrev pub number_word : ℕ → List ℕ → Option ℕ
 number_word limit word =
     if is_numeral word && nat_le (digits_value 10 word) limit then Some (digits_value 10 word) else None
 
--- four numbers up to 255
-abbrev pub quad_of : List (List ℕ) → Option (List ℕ)
-quad_of (a ∷ b ∷ c ∷ d ∷ []) = do
-  a ← number_word 255 a
-  b ← number_word 255 b
-  c ← number_word 255 c
-  d ← number_word 255 d
-  Some (a ∷ b ∷ c ∷ d ∷ [])
-quad_of pieces = None
-
--- an IPv4 address: its four octets, separated by '.'
-abbrev pub address_word : List ℕ → Option ℕ
-address_word word = option_map number (quad_of (split 46 word))
-
 -- octets as pairs of hex digits of either case, or '-' for no octets
 abbrev pub hex_word : List ℕ → Option (List ℕ)
 hex_word word =
@@ -72,7 +58,7 @@ choice_word on off word = if bytes_eq word on then Some true else if bytes_eq wo
 abbrev pub addresses_of : List (List ℕ) → Option (List ℕ)
 addresses_of [] = Some []
 addresses_of (piece ∷ pieces) = do
-  address ← address_word piece
+  address ← address_in piece
   addresses ← addresses_of pieces
   Some (address ∷ addresses)
 

@@ -3,6 +3,7 @@
 ghost use Rattle.std.specs.Prelude.{◌≡◌, ◌≤◌, ◌<◌, length, IsTrue, IfOk};
 ghost use Rattle.std.specs.Char.{is_ascii_digit};
 ghost use Rattle.std.specs.List.{list_all};
+ghost use Rattle.agent_config.specs.Values.{address_in};
 ghost use Rattle.transcript.specs.Words as words;
 ghost use Rattle.transcript.specs.Reads.{Reads};
 
@@ -12,7 +13,7 @@ use agent_config::AddressList;
 use hex::FromHexError;
 use std::alloc::Global;
 use std::str;
-use wire_core::{Octets, get_u32};
+use wire_core::Octets;
 
 fn all_digits(word: &[u8]) -> bool
     ensures { result ≡ list_all is_ascii_digit word.now }
@@ -50,13 +51,6 @@ pub(crate) fn read_number(word: &[u8], limit: u64) -> Result<u64, WordFault>
     }
 }
 
-/// A decimal number below 2^8.
-fn read_u8(word: &[u8]) -> Result<u8, WordFault>
-    ensures { Reads result (words.number_word 255 word.now) }
-{
-    Ok(read_number(word, u64::from(u8::MAX))? as u8)
-}
-
 /// A decimal number below 2^16.
 pub(crate) fn read_u16(word: &[u8]) -> Result<u16, WordFault>
     ensures { Reads result (words.number_word 65535 word.now) }
@@ -71,24 +65,11 @@ pub(crate) fn read_u32(word: &[u8]) -> Result<u32, WordFault>
     Ok(read_number(word, u64::from(u32::MAX))? as u32)
 }
 
-/// The four numbers of an address, as octets.
-fn read_quad(word: &[u8]) -> Result<[u8; 4], WordFault>
-    ensures { Reads result (words.quad_of (words.split 46 word.now)) }
-{
-    let mut pieces = Pieces::new(word, b'.');
-    let a = pieces.piece()?;
-    let b = pieces.piece()?;
-    let c = pieces.piece()?;
-    let d = pieces.piece()?;
-    pieces.end()?;
-    Ok([read_u8(a)?, read_u8(b)?, read_u8(c)?, read_u8(d)?])
-}
-
 /// An IPv4 address.
 pub(crate) fn read_address(word: &[u8]) -> Result<u32, WordFault>
-    ensures { Reads result (words.address_word word.now) }
+    ensures { Reads result (address_in word.now) }
 {
-    Ok(get_u32(&read_quad(word)?, 0))
+    agent_config::read_address(word).ok_or(WordFault::Bad)
 }
 
 /// Octets in hex, or `-` for none.
