@@ -1,8 +1,8 @@
 -- What the entries of clients say of a search by address.
-use Rattle.std.proofs.Common.{◌≡◌, ℕ, ◌+◌, ◌≤◌, ◌<◌, true, false, cond, eqb, nat_eq, ltb, inl, inr, List, [], ◌∷◌, ◌++◌, length, Option, None, Some, option_map, position, refl, sym, ap, ◌∙◌, arith}
-use Rattle.std.specs.List.{enumerate_from, find, position_from, position_or_len}
+use Rattle.std.proofs.Common.{◌≡◌, ℕ, ◌+◌, true, false, eqb, nat_eq, inl, inr, List, [], ◌∷◌, ◌++◌, Option, None, Some, position, refl, sym, ap, ◌∙◌, arith}
+use Rattle.std.specs.List.{position_from}
 use Rattle.std.specs.Map.{keys_of, values_of, lookup}
-use Rattle.std.proofs.lemmas.Bool.{cases_Bool, eq-eqb, ne_eqb, eqb-true}
+use Rattle.std.proofs.lemmas.Bool.{cases_Bool}
 use Rattle.std.proofs.lemmas.Bool.Decides.{nat_tests}
 use Rattle.std.proofs.lemmas.Iterator.Adapters.{position_from-zero}
 use Rattle.agent_config.specs.declared.client.Client.{Client}

@@ -1,17 +1,16 @@
 -- Settings without a fault are in limits.
-use Rattle.std.proofs.Common.{◌≡◌, ℕ, ◌+◌, ◌≤◌, Bool, true, false, cond, ◌&&◌, nat_le, le-leb, List, [], ◌∷◌, ◌++◌, length, map, codes, pos, negsuc, ℤ, Option, None, Some, unwrap_or, option_map, IfSome, IsTrue, Result, Ok, Err, refl, sym, ap, subst, ◌∙◌, inl, inr, arith}
+use Rattle.std.proofs.Common.{◌≡◌, ℕ, ◌+◌, ◌≤◌, Bool, true, nat_le, le-leb, List, [], ◌∷◌, length, map, codes, Option, None, Some, unwrap_or, option_map, IfSome, Ok, Err, refl, sym, subst, ◌∙◌, inl, inr, arith}
 use Rattle.std.specs.List.{list_all}
 use Rattle.std.specs.Option.{option_and_then, option_map_or}
 use Rattle.std.proofs.lemmas.Bool.{and_from, cases_Bool, leb-true}
 use Rattle.std.proofs.lemmas.List.{length-map}
-use Rattle.toml.specs.Data.{Data, Items, no_items, item, Members, as_str, as_integer, as_array, as_table, as_bool, get_member}
-use Rattle.agent_config.specs.declared.client.Client.{Client}
+use Rattle.toml.specs.Data.{Data, Items, no_items, item, Members, as_str, as_integer, as_array, as_table, get_member}
 use Rattle.agent_config.specs.declared.config.Config.{Config}
 use Rattle.agent_config.specs.declared.fault.ConfigFault.{ConfigFault}
 use Rattle.agent_config.specs.declared.fault.ConfigFault.TheVariants.{NotToml, BadValue}
-use Rattle.agent_config.specs.Config.{are_settings_in_limits, is_between, is_client_in_limits, is_name, twice, InLimits}
-use Rattle.agent_config.specs.Values.{address_of, addresses_of, count, each, items_up_to, keys_choice_of, name_of, natural, number_of, passed, secret_of, tables_of}
-use Rattle.agent_config.specs.Settings.{allowed, at, client_faults, client_of, client_tables, clients_faults, clients_of, config_of, config_unless, document, fault_unless, faults, first, needed, needed_in, or_first, realm_of, retention_of, settings_in, settled, top_faults, top_of, SettingsAreInLimits}
+use Rattle.agent_config.specs.Config.{are_settings_in_limits, is_between, is_client_in_limits, is_name, InLimits}
+use Rattle.agent_config.specs.Values.{address_of, addresses_of, count, each, name_of, natural, number_of, passed, secret_of, tables_of}
+use Rattle.agent_config.specs.Settings.{at, client_faults, client_of, client_tables, clients_faults, clients_of, config_of, config_unless, document, fault_unless, faults, first, needed, needed_in, or_first, realm_of, retention_of, settled, top_faults, top_of, SettingsAreInLimits}
 use Rattle.agent_config.proofs.FaultLemmas.{first-append, first-parts}
 use Rattle.agent_config.proofs.Twice.{distinct_unless_twice}
 

@@ -1,5 +1,5 @@
 -- What the values of a document stand for, in the steps of the code.
-use Rattle.std.proofs.Common.{◌≡◌, ℕ, ◌+◌, ◌<◌, arith, List, [], ◌∷◌, ◌++◌, length, get_or, drop, Option, None, Some, option_map, append-nil, append_assoc, refl, sym, ap, subst, ◌∙◌, lit≤}
+use Rattle.std.proofs.Common.{◌≡◌, ℕ, ◌+◌, ◌<◌, arith, List, [], ◌∷◌, ◌++◌, length, get_or, drop, Option, None, Some, option_map, append-nil, append_assoc, refl, sym, ap, ◌∙◌, lit≤}
 use Rattle.std.specs.Option.{option_and_then}
 use Rattle.std.specs.declared.net.ipv4_addr.Ipv4Addr.{Ipv4Addr}
 use Rattle.std.specs.Net.Grammar.{IsDotted, IsIpv4Text}

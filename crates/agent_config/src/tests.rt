@@ -48,126 +48,124 @@ fn document(alloc: Global, client: u32, key: &str, line: &str) -> Result<String,
     Ok(text)
 }
 
-/// The number of a fault, its client and its key; 0 for none.
-fn fault(read: &Result<Config, ConfigFault>) -> (u32, u32, &[u8]) {
+/// The name of a fault, its client and its key.
+fn fault(read: &Result<Config, ConfigFault>) -> (&str, u32, &[u8]) {
     match read {
-        Ok(_) => (0, 0, b"".as_slice()),
-        Err(ConfigFault::NotToml) => (1, 0, b"".as_slice()),
-        Err(ConfigFault::Missing { client, key }) => (2, *client, key.as_slice()),
-        Err(ConfigFault::BadValue { client, key }) => (3, *client, key.as_slice()),
-        Err(ConfigFault::TwiceAddress { client }) => (4, *client, b"".as_slice()),
-        Err(ConfigFault::NoMemory) => (5, 0, b"".as_slice()),
+        Ok(_) => ("Ok", 0, b"".as_slice()),
+        Err(ConfigFault::NotToml) => ("NotToml", 0, b"".as_slice()),
+        Err(ConfigFault::Missing { client, key }) => ("Missing", *client, key.as_slice()),
+        Err(ConfigFault::BadValue { client, key }) => ("BadValue", *client, key.as_slice()),
+        Err(ConfigFault::TwiceAddress { client }) => ("TwiceAddress", *client, b"".as_slice()),
+        Err(ConfigFault::NoMemory) => ("NoMemory", 0, b"".as_slice()),
     }
 }
 
-/// A key of the top table (0) or of the client (1), a line in place of its own, and the number of the
+/// What stands before the next bar, and the rest.
+fn cut(case: &str) -> (&str, &str) {
+    case.split_once('|').unwrap_or((case, ""))
+}
+
+/// In each line a table, 0 for the top and 1 for the client, a key, a line in place of its own, and the
 /// fault that this key then shows.
-const KEYS: [(u32, &str, &str, u32); 83] = [
-    (0, "host", "", 2),
-    (0, "host", "host = 7", 3),
-    (0, "host", "host = ''", 3),
-    (0, "host", "host = 'a b'", 3),
-    (0, "realm", "", 2),
-    (0, "realm", "realm = true", 3),
-    (0, "home_realm", "", 0),
-    (0, "home_realm", "home_realm = []", 3),
-    (0, "address", "", 2),
-    (0, "address", "address = 1", 3),
-    (0, "address", "address = '0.0.0.0'", 0),
-    (0, "address", "address = '255.255.255.255'", 0),
-    (0, "address", "address = '1.2.3.256'", 3),
-    (0, "address", "address = '01.2.3.4'", 3),
-    (0, "address", "address = '1.2.3'", 3),
-    (0, "address", "address = '1.2.3.4.5'", 3),
-    (0, "address", "address = '1.2.3.4 '", 3),
-    (0, "address", "address = '1.2..4'", 3),
-    (0, "boot", "", 0),
-    (0, "boot", "boot = -1", 3),
-    (0, "boot", "boot = 0", 0),
-    (0, "boot", "boot = 4294967295", 0),
-    (0, "boot", "boot = 4294967296", 3),
-    (0, "boot", "boot = '7'", 3),
-    (0, "retention_ms", "retention_ms = 999", 3),
-    (0, "retention_ms", "retention_ms = 1000", 0),
-    (0, "retention_ms", "retention_ms = 300000", 0),
-    (0, "retention_ms", "retention_ms = 300001", 3),
-    (0, "retention_ms", "retention_ms = 1000.0", 3),
-    (0, "capacity", "capacity = 0", 3),
-    (0, "capacity", "capacity = 1", 0),
-    (0, "capacity", "capacity = 65536", 0),
-    (0, "capacity", "capacity = 65537", 3),
-    (0, "capacity", "capacity = true", 3),
-    (0, "backlog", "backlog = 1", 3),
-    (0, "backlog", "backlog = 2", 0),
-    (0, "backlog", "backlog = 65536", 0),
-    (0, "backlog", "backlog = 65537", 3),
-    (0, "backlog", "backlog = []", 3),
-    (0, "watchdog_ms", "watchdog_ms = 5999", 3),
-    (0, "watchdog_ms", "watchdog_ms = 6000", 0),
-    (0, "watchdog_ms", "watchdog_ms = 600000", 0),
-    (0, "watchdog_ms", "watchdog_ms = 600001", 3),
-    (0, "watchdog_ms", "watchdog_ms = '6000'", 3),
-    (0, "patience_ms", "patience_ms = 999", 3),
-    (0, "patience_ms", "patience_ms = 1000", 0),
-    (0, "patience_ms", "patience_ms = 300000", 0),
-    (0, "patience_ms", "patience_ms = 300001", 3),
-    (0, "patience_ms", "patience_ms = 1979-05-27", 3),
-    (0, "patience", "patience = 1000", 3),
-    (1, "name", "", 2),
-    (1, "name", "name = 1", 3),
-    (1, "name", "name = 'nas/1'", 3),
-    (1, "address", "", 2),
-    (1, "address", "address = '192.168.1'", 3),
-    (1, "address", "address = 3232235792", 3),
-    (1, "secret", "", 2),
-    (1, "secret", "secret = ''", 3),
-    (1, "secret", "secret = 'x'", 0),
-    (1, "secret", "secret = 5461", 3),
-    (1, "origin_host", "", 2),
-    (1, "origin_host", "origin_host = false", 3),
-    (1, "origin_realm", "", 2),
-    (1, "origin_realm", "origin_realm = 'ex ample'", 3),
-    (1, "require_seal", "", 0),
-    (1, "require_seal", "require_seal = true", 0),
-    (1, "require_seal", "require_seal = 1", 3),
-    (1, "require_seal", "require_seal = 'true'", 3),
-    (1, "session_keys", "", 0),
-    (1, "session_keys", "session_keys = 'refuse'", 0),
-    (1, "session_keys", "session_keys = 'omit'", 0),
-    (1, "session_keys", "session_keys = 'keep'", 3),
-    (1, "session_keys", "session_keys = true", 3),
-    (1, "nas_addresses", "", 0),
-    (1, "nas_addresses", "nas_addresses = []", 0),
-    (
-        1,
-        "nas_addresses",
-        "nas_addresses = ['10.0.0.9', '10.0.0.9']",
-        0,
-    ),
-    (
-        1,
-        "nas_addresses",
-        "nas_addresses = ['10.0.0.9', '10.0.0']",
-        3,
-    ),
-    (1, "nas_addresses", "nas_addresses = ['10.0.0.9', 1]", 3),
-    (1, "nas_addresses", "nas_addresses = '10.0.0.9'", 3),
-    (1, "retention_ms", "retention_ms = 1000", 3),
-    (1, "Name", "Name = 'nas1'", 3),
-    (0, "clients", "clients = 1", 1),
-    (1, "zeta", "zeta = { a = 1 }", 3),
-];
+const KEYS: &str = "\
+0|host||Missing
+0|host|host = 7|BadValue
+0|host|host = ''|BadValue
+0|host|host = 'a b'|BadValue
+0|realm||Missing
+0|realm|realm = true|BadValue
+0|home_realm||Ok
+0|home_realm|home_realm = []|BadValue
+0|address||Missing
+0|address|address = 1|BadValue
+0|address|address = '0.0.0.0'|Ok
+0|address|address = '255.255.255.255'|Ok
+0|address|address = '1.2.3.256'|BadValue
+0|address|address = '01.2.3.4'|BadValue
+0|address|address = '1.2.3'|BadValue
+0|address|address = '1.2.3.4.5'|BadValue
+0|address|address = '1.2.3.4 '|BadValue
+0|address|address = '1.2..4'|BadValue
+0|boot||Ok
+0|boot|boot = -1|BadValue
+0|boot|boot = 0|Ok
+0|boot|boot = 4294967295|Ok
+0|boot|boot = 4294967296|BadValue
+0|boot|boot = '7'|BadValue
+0|retention_ms|retention_ms = 999|BadValue
+0|retention_ms|retention_ms = 1000|Ok
+0|retention_ms|retention_ms = 300000|Ok
+0|retention_ms|retention_ms = 300001|BadValue
+0|retention_ms|retention_ms = 1000.0|BadValue
+0|capacity|capacity = 0|BadValue
+0|capacity|capacity = 1|Ok
+0|capacity|capacity = 65536|Ok
+0|capacity|capacity = 65537|BadValue
+0|capacity|capacity = true|BadValue
+0|backlog|backlog = 1|BadValue
+0|backlog|backlog = 2|Ok
+0|backlog|backlog = 65536|Ok
+0|backlog|backlog = 65537|BadValue
+0|backlog|backlog = []|BadValue
+0|watchdog_ms|watchdog_ms = 5999|BadValue
+0|watchdog_ms|watchdog_ms = 6000|Ok
+0|watchdog_ms|watchdog_ms = 600000|Ok
+0|watchdog_ms|watchdog_ms = 600001|BadValue
+0|watchdog_ms|watchdog_ms = '6000'|BadValue
+0|patience_ms|patience_ms = 999|BadValue
+0|patience_ms|patience_ms = 1000|Ok
+0|patience_ms|patience_ms = 300000|Ok
+0|patience_ms|patience_ms = 300001|BadValue
+0|patience_ms|patience_ms = 1979-05-27|BadValue
+0|patience|patience = 1000|BadValue
+1|name||Missing
+1|name|name = 1|BadValue
+1|name|name = 'nas/1'|BadValue
+1|address||Missing
+1|address|address = '192.168.1'|BadValue
+1|address|address = 3232235792|BadValue
+1|secret||Missing
+1|secret|secret = ''|BadValue
+1|secret|secret = 'x'|Ok
+1|secret|secret = 5461|BadValue
+1|origin_host||Missing
+1|origin_host|origin_host = false|BadValue
+1|origin_realm||Missing
+1|origin_realm|origin_realm = 'ex ample'|BadValue
+1|require_seal||Ok
+1|require_seal|require_seal = true|Ok
+1|require_seal|require_seal = 1|BadValue
+1|require_seal|require_seal = 'true'|BadValue
+1|session_keys||Ok
+1|session_keys|session_keys = 'refuse'|Ok
+1|session_keys|session_keys = 'omit'|Ok
+1|session_keys|session_keys = 'keep'|BadValue
+1|session_keys|session_keys = true|BadValue
+1|nas_addresses||Ok
+1|nas_addresses|nas_addresses = []|Ok
+1|nas_addresses|nas_addresses = ['10.0.0.9', '10.0.0.9']|Ok
+1|nas_addresses|nas_addresses = ['10.0.0.9', '10.0.0']|BadValue
+1|nas_addresses|nas_addresses = ['10.0.0.9', 1]|BadValue
+1|nas_addresses|nas_addresses = '10.0.0.9'|BadValue
+1|retention_ms|retention_ms = 1000|BadValue
+1|Name|Name = 'nas1'|BadValue
+0|clients|clients = 1|NotToml
+1|zeta|zeta = { a = 1 }|BadValue";
 
 #[test]
 fn keys(rt: HostRuntime) -> Result<(), Fail> {
-    for case in &KEYS {
-        let (client, key, line, number) = (case.0, case.1, case.2, case.3);
+    for case in KEYS.lines() {
+        let (table, rest) = cut(case);
+        let (key, rest) = cut(rest);
+        let (line, wanted) = cut(rest);
+        let client = if table == "1" { 1 } else { 0 };
         let text = document(rt.alloc(), client, key, line)?;
         let read = read(rt.alloc(), text.as_bytes());
-        let shown = fault(&read);
-        assert_eq!(rt; shown.0, number, "{line}");
-        if 1 < number {
-            assert_eq!(rt; (shown.1, shown.2), (client, key.as_bytes()), "{line}");
+        let (name, faulty, faulty_key) = fault(&read);
+        assert_eq!(rt; name, wanted, "{case}");
+        if name == "Missing" || name == "BadValue" {
+            assert_eq!(rt; faulty, client, "{case}");
+            assert_eq!(rt; faulty_key, key.as_bytes(), "{case}");
         }
     }
     Ok(())
@@ -181,104 +179,89 @@ const FIRST: &str =
 const SECOND: &str =
     "[[clients]]\nname = 'nas2'\naddress = '192.168.1.17'\nsecret = 'arctangent'\norigin_host = 'nas2.example'\norigin_realm = 'example'\n";
 
-/// The three parts of a document, and the number, the client and the key of its first fault.
-const DOCUMENTS: [(&str, &str, &str, u32, u32, &str); 27] = [
-    (TOP, FIRST, SECOND, 0, 0, ""),
-    (TOP, "clients = []", "", 0, 0, ""),
-    // No TOML.
-    ("host = ", "", "", 1, 0, ""),
-    ("host = 'a'\nhost = 'b'", "", "", 1, 0, ""),
-    (TOP, FIRST, "[clients]", 1, 0, ""),
-    // The clients.
-    (TOP, "", "", 2, 0, "clients"),
-    (TOP, "clients = {}", "", 3, 0, "clients"),
-    (TOP, "clients = [1]", "", 3, 0, "clients"),
-    (TOP, "[clients]\nname = 'nas1'", "", 3, 0, "clients"),
-    (TOP, "[[clients]]", "", 2, 1, "name"),
-    // The first of two faults.
-    ("", "", "", 2, 0, "host"),
-    ("host = 'a'", "", "", 2, 0, "realm"),
-    ("host = 1\nboot = -1", "", "", 3, 0, "host"),
-    ("realm = 1", "", "", 2, 0, "host"),
-    (
-        TOP,
-        "patience_ms = 0\nwatchdog_ms = 0\n",
-        FIRST,
-        3,
-        0,
-        "watchdog_ms",
-    ),
-    (TOP, "patience_ms = 0\na = 0\n", FIRST, 3, 0, "patience_ms"),
-    (TOP, "a = 0\nclients = 1", "", 3, 0, "clients"),
-    (TOP, "zz = 0\nab = 0\nabc = 0\n", FIRST, 3, 0, "ab"),
-    (TOP, "alpha = 0\nZeta = 0\n", FIRST, 3, 0, "Zeta"),
-    (TOP, "alpha = 0\n", "[[clients]]", 3, 0, "alpha"),
-    (TOP, "[[clients]]\nb = 0\n", SECOND, 2, 1, "name"),
-    (
-        TOP,
-        FIRST,
-        "require_seal = 0\nb = 0\na = 0",
-        3,
-        1,
-        "require_seal",
-    ),
-    (TOP, FIRST, "b = 0\na = 0\n[[clients]]", 3, 1, "a"),
-    (TOP, FIRST, "[[clients]]\nsecret = 1", 2, 2, "name"),
-    // One address twice.
-    (TOP, FIRST, FIRST, 4, 2, ""),
-    (
-        TOP,
-        FIRST,
-        "[[clients]]\nname = 'nas2'\naddress = '192.168.1.16'\nsecret = ''\norigin_host = 'a'\norigin_realm = 'b'",
-        3,
-        2,
-        "secret",
-    ),
-    (
-        TOP,
-        SECOND,
-        "[[clients]]\nname = 'a'\naddress = '1.1.1.1'\nsecret = 'a'\norigin_host = 'a'\norigin_realm = 'a'\n[[clients]]\nname = 'b'\naddress = '192.168.1.17'\nsecret = 'b'\norigin_host = 'b'\norigin_realm = 'b'\n[[clients]]\nname = 'c'\naddress = '1.1.1.1'\nsecret = 'c'\norigin_host = 'c'\norigin_realm = 'c'",
-        4,
-        3,
-        "",
-    ),
-];
+const THIRD: &str =
+    "[[clients]]\nname = 'a'\naddress = '1.1.1.1'\nsecret = 'a'\norigin_host = 'a'\norigin_realm = 'a'\n";
 
-fn joined(alloc: Global, first: &str, second: &str, third: &str) -> Result<String, AllocError> {
-    let mut text = String::from_str(alloc, first)?;
-    text.push_str(second)?;
-    text.push_str(third)?;
+/// In each line the lines or tables of a document, and the first fault with its client and its key.
+const DOCUMENTS: &str = "\
+@top&@first&@second|Ok|0|
+@top&clients = []|Ok|0|
+host = |NotToml|0|
+host = 'a'&host = 'b'|NotToml|0|
+@top&@first&[clients]|NotToml|0|
+@top|Missing|0|clients
+@top&clients = {}|BadValue|0|clients
+@top&clients = [1]|BadValue|0|clients
+@top&[clients]&name = 'nas1'|BadValue|0|clients
+@top&[[clients]]|Missing|1|name
+|Missing|0|host
+host = 'a'|Missing|0|realm
+host = 1&boot = -1|BadValue|0|host
+realm = 1|Missing|0|host
+@top&patience_ms = 0&watchdog_ms = 0&@first|BadValue|0|watchdog_ms
+@top&patience_ms = 0&a = 0&@first|BadValue|0|patience_ms
+@top&a = 0&clients = 1|BadValue|0|clients
+@top&zz = 0&ab = 0&abc = 0&@first|BadValue|0|ab
+@top&alpha = 0&Zeta = 0&@first|BadValue|0|Zeta
+@top&alpha = 0&[[clients]]|BadValue|0|alpha
+@top&[[clients]]&b = 0&@second|Missing|1|name
+@top&@first&require_seal = 0&b = 0&a = 0|BadValue|1|require_seal
+@top&@first&b = 0&a = 0&[[clients]]|BadValue|1|a
+@top&@first&[[clients]]&secret = 1|Missing|2|name
+@top&@first&@first|TwiceAddress|2|
+@top&@first&[[clients]]&name = 'nas2'&address = '192.168.1.16'&secret = ''&origin_host = 'a'&origin_realm = 'b'|BadValue|2|secret
+@top&@second&@third&@second&@third|TwiceAddress|3|";
+
+/// The document of these parts.
+fn joined(alloc: Global, parts: &str) -> Result<String, AllocError> {
+    let mut text = String::new(alloc);
+    for part in parts.split('&') {
+        let lines = match part {
+            "@top" => TOP,
+            "@first" => FIRST,
+            "@second" => SECOND,
+            "@third" => THIRD,
+            line => line,
+        };
+        text.push_str(lines)?;
+        text.push_str("\n")?;
+    }
     Ok(text)
 }
 
 #[test]
 fn documents(rt: HostRuntime) -> Result<(), Fail> {
-    for case in &DOCUMENTS {
-        let text = joined(rt.alloc(), case.0, case.1, case.2)?;
+    for case in DOCUMENTS.lines() {
+        let (parts, rest) = cut(case);
+        let (name, rest) = cut(rest);
+        let (client, key) = cut(rest);
+        let text = joined(rt.alloc(), parts)?;
         let read = read(rt.alloc(), text.as_bytes());
-        let (number, client, key) = (case.3, case.4, case.5.as_bytes());
-        assert_eq!(rt; fault(&read), (number, client, key), "{text}");
+        let (faulty, of, of_key) = fault(&read);
+        assert_eq!(rt; faulty, name, "{case}");
+        assert!(rt; client.parse::<u32>() == Ok(of), "{case}");
+        assert_eq!(rt; of_key, key.as_bytes(), "{case}");
     }
     let read = read(rt.alloc(), b"host = '\xff'");
-    assert!(rt; fault(&read) == (1, 0, b"".as_slice()));
+    assert_eq!(rt; fault(&read).0, "NotToml");
     Ok(())
 }
 
 /// Texts and lists at their longest, and one longer.
 #[test]
 fn lengths(rt: HostRuntime) -> Result<(), Fail> {
-    for (client, key, length, number) in [
-        (0, "host", 64, 0),
-        (0, "host", 65, 3),
-        (0, "realm", 65, 3),
-        (0, "home_realm", 64, 0),
-        (0, "home_realm", 65, 3),
-        (1, "name", 64, 0),
-        (1, "name", 65, 3),
-        (1, "secret", 128, 0),
-        (1, "secret", 129, 3),
-        (1, "origin_host", 65, 3),
-        (1, "origin_realm", 65, 3),
+    for (client, key, length, wanted) in [
+        (0, "host", 64, "Ok"),
+        (0, "host", 65, "BadValue"),
+        (0, "realm", 65, "BadValue"),
+        (0, "home_realm", 64, "Ok"),
+        (0, "home_realm", 65, "BadValue"),
+        (1, "name", 64, "Ok"),
+        (1, "name", 65, "BadValue"),
+        (1, "secret", 128, "Ok"),
+        (1, "secret", 129, "BadValue"),
+        (1, "origin_host", 65, "BadValue"),
+        (1, "origin_realm", 65, "BadValue"),
     ] {
         let mut line = format!(in rt.alloc(); "{key} = '")?;
         for _ in 0..length {
@@ -287,9 +270,9 @@ fn lengths(rt: HostRuntime) -> Result<(), Fail> {
         line.push_str("'")?;
         let text = document(rt.alloc(), client, key, line.as_str())?;
         let read = read(rt.alloc(), text.as_bytes());
-        assert_eq!(rt; fault(&read).0, number, "{line}");
+        assert_eq!(rt; fault(&read).0, wanted, "{line}");
     }
-    for (addresses, number) in [(64, 0), (65, 3)] {
+    for (addresses, wanted) in [(64, "Ok"), (65, "BadValue")] {
         let mut line = String::from_str(rt.alloc(), "nas_addresses = [")?;
         for _ in 0..addresses {
             line.push_str("'10.0.0.9',")?;
@@ -297,7 +280,7 @@ fn lengths(rt: HostRuntime) -> Result<(), Fail> {
         line.push_str("]")?;
         let text = document(rt.alloc(), 1, "nas_addresses", line.as_str())?;
         let read = read(rt.alloc(), text.as_bytes());
-        assert_eq!(rt; fault(&read).0, number, "{addresses}");
+        assert_eq!(rt; fault(&read).0, wanted, "{addresses}");
     }
     Ok(())
 }
@@ -323,7 +306,7 @@ fn many_clients(rt: HostRuntime) -> Result<(), Fail> {
     let last = config.clients.by_address(0x0a00_03ff);
     assert_eq!(rt; last.map(|(place, _)| place), Some(1_023));
     let read = read(rt.alloc(), many(rt.alloc(), 1_025)?.as_bytes());
-    assert!(rt; fault(&read) == (3, 0, b"clients".as_slice()));
+    assert!(rt; fault(&read) == ("BadValue", 0, b"clients".as_slice()));
     Ok(())
 }
 

@@ -1,6 +1,4 @@
-use Rattle.std.proofs.Common.{ap, sym, ◌∙◌}
-use Rattle.agent_config.specs.Config.{find_address}
-use Rattle.agent_config.proofs.Keyed.{both, find_keyed}
+use Rattle.agent_config.proofs.Keyed.{find_keyed}
 use Rattle.agent_config.proofs.clients.Clients.by_address.Goals as goal
 
 pub returns-in-Some : goal.returns-in-Some

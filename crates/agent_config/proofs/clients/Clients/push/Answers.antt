@@ -1,8 +1,7 @@
-use Rattle.std.proofs.Common.{◌≡◌, None, nat_eq, ap, sym, subst, ◌∙◌}
+use Rattle.std.proofs.Common.{◌≡◌, None, nat_eq}
 use Rattle.indexmap.specs.IndexMap.{get, values}
 use Rattle.indexmap.proofs.CallerLemmas.{insert_entry-new}
 use Rattle.agent_config.specs.Config.{find_address}
-use Rattle.agent_config.specs.Keyed.{IsKeyed}
 use Rattle.agent_config.proofs.Keyed.{absent_key, IsKeyed-push, values_of-push}
 use Rattle.agent_config.proofs.clients.Clients.push.Goals as goal
 
