@@ -16,8 +16,6 @@ const LINES: [(u32, &str, &str); 9] = [
     (1, "origin_realm", "origin_realm = \"example\""),
 ];
 
-const A64: &str = "aaaaaaaaaaaaaaaaaaaaaaaaaaaaaaaaaaaaaaaaaaaaaaaaaaaaaaaaaaaaaaaa";
-
 /// The lines of one table, with `line` in place of the one of `key`.
 fn push_table(
     text: &mut String,
@@ -253,6 +251,7 @@ fn lengths(rt: HostRuntime) -> Result<(), Fail> {
     for (client, key, length, wanted) in [
         (0, "host", 64, "Ok"),
         (0, "host", 65, "BadValue"),
+        (0, "realm", 64, "Ok"),
         (0, "realm", 65, "BadValue"),
         (0, "home_realm", 64, "Ok"),
         (0, "home_realm", 65, "BadValue"),
@@ -260,7 +259,9 @@ fn lengths(rt: HostRuntime) -> Result<(), Fail> {
         (1, "name", 65, "BadValue"),
         (1, "secret", 128, "Ok"),
         (1, "secret", 129, "BadValue"),
+        (1, "origin_host", 64, "Ok"),
         (1, "origin_host", 65, "BadValue"),
+        (1, "origin_realm", 64, "Ok"),
         (1, "origin_realm", 65, "BadValue"),
     ] {
         let mut line = format!(in rt.alloc(); "{key} = '")?;
