@@ -91,7 +91,7 @@ group_fault tag body = if nat_lt 31 tag then Some TooMany else list_fault (read_
 abbrev pub attribute_of : ℕ → AvpParts → Option AttributeParts
 attribute_of tag a = option_map (λ body. record { code = a.code; value = tag ∷ body }) (attribute_body a)
 
--- each member of a good size gives one, with this tag
+-- one for each member whose size is good, with this tag
 abbrev pub attributes_of : ℕ → List AvpParts → List AttributeParts
 attributes_of tag avps = filter_map (attribute_of tag) avps
 

@@ -2,14 +2,13 @@
 
 ghost use Rattle.tunnel_map.specs.RoundTrip.{GroupsAreReadBack, TagsAreReadBack, WrittenGroupsAreAccepted};
 
-/// The groups of at most 31 tags, with texts of at most 252 octets, are read back as the tagged attributes by tag, in
-/// the order of each tag's first place, with the tags 1, 2 and so on.
+/// What was written of attributes comes back: those of the tag that came first now have tag 1, those of the next one tag
+/// 2, and each keeps its place among its own. So many tags are 31, and no text may be longer than 252 octets.
 pub fn groups_are_read_back()
     ensures { GroupsAreReadBack }
 {}
 
-/// A group of texts of at most 252 octets is accepted with each of the tags 0 to 31, and gives its attributes with that
-/// tag.
+/// A written group without longer texts has no fault under any tag up to 31, and gives its attributes that tag.
 pub fn written_groups_are_accepted()
     ensures { WrittenGroupsAreAccepted }
 {}
