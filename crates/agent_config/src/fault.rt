@@ -3,11 +3,10 @@
 use std::alloc::AllocFailed;
 use wire_core::{NoMemory, Octets};
 
-/// Why a text gives no settings (profile). A `client` is 0 for the top table, and i for the i-th
-/// client.
+/// Why a text gives no settings (profile). Clients count from 1; 0 stands for the top table.
 #[derive(Clone, Debug, Drop, PartialEq, Eq)]
 pub enum ConfigFault {
-    /// The text isn't a TOML document in UTF-8.
+    /// The text is no UTF-8, or no TOML.
     NotToml,
     /// The table lacks a key that it needs.
     Missing { client: u32, key: Octets },

@@ -158,10 +158,10 @@ fn read_table(alloc: Global, table: &Table) -> Result<Config, ConfigFault>
     Ok(config)
 }
 
-/// The settings of a TOML document, or the first of its faults: not being TOML in UTF-8, then the
-/// keys of the top table in their order, each first missing, then bad, then unknown keys in the
-/// order of their octets, then each client the same way, then an address that comes twice
-/// (profile).
+/// The settings of a TOML document, or the first of its faults. They are looked for in one order:
+/// whether the text is TOML in UTF-8; for each key that settings have, whether it is there and what
+/// it holds; other keys, by their octets; each client likewise; an address that an earlier client
+/// has (profile).
 pub fn read(alloc: Global, text: &[u8]) -> Result<Config, ConfigFault>
     ensures ok { IfOk result (λ config. settings_in text.now ≡ Ok config) }
     ensures err { IfErr result (λ e. e ≢ fault.NoMemory → settings_in text.now ≡ Err e) }
