@@ -1,6 +1,6 @@
 //! What a value of RADIUS becomes in Diameter, and the other way.
 
-ghost use Rattle.std.specs.Prelude.{◌≡◌, length};
+ghost use Rattle.std.specs.Prelude.{◌≡◌, length, IsTrue, is_ok, Ok};
 ghost use Rattle.std.specs.Str.{is_utf8};
 ghost use Rattle.attribute_table.specs.Images as images;
 
@@ -126,11 +126,21 @@ pub fn forward<'a>(row: &Row, value: &'a [u8]) -> Result<Image<'a>, RowFault>
     if !is_of_kind(row.kind, value) {
         return Err(kind_fault(row.kind));
     }
+    Ok(forward_checked(row, value))
+}
+
+/// The data of the AVP that an attribute with this value becomes, where the value is known to be of the row's kind. It
+/// isn't looked at again.
+#[tactic(auto, unfolding(crate::specs::Images::forward_image))]
+pub fn forward_checked<'a>(row: &Row, value: &'a [u8]) -> Image<'a>
+    requires { IsTrue (is_ok (images.forward_image row.now value.now)) }
+    ensures { Ok result ≡ images.forward_image row.now value.now }
+{
     let held = match row.kind {
         Kind::Time => Held::Made(later(value)),
         _ => Held::Borrowed(value),
     };
-    Ok(Image { held })
+    Image { held }
 }
 
 /// The value of the attribute that an AVP with this data becomes.

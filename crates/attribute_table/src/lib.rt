@@ -9,7 +9,7 @@ mod parts;
 mod row;
 mod vendor;
 
-pub use image::{Image, RowFault, backward, forward};
+pub use image::{Image, RowFault, backward, forward, forward_checked};
 pub use known::{is_key, is_known};
 pub use laws::{
     backward_images_keep_length, images_go_back, images_keep_length, rows_keep_numbers, rows_meet,

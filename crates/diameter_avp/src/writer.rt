@@ -16,6 +16,9 @@ use wire_core::{NoMemory, Octets};
 /// What a list can take: a message of 65,536 octets less its header (profile).
 const MAX_LIST: usize = 65_516;
 
+/// The room that a list begins with, in octets: most messages need no more.
+const FIRST_ROOM: usize = 512;
+
 /// Why an AVP was not written.
 #[derive(Clone, Copy, Debug, PartialEq, Eq, Error)]
 pub enum WriteFault {
@@ -75,8 +78,10 @@ impl AvpWriter {
         requires { length front.now ≤ 20 }
         ensures { IfOk result (λ w. w ≡ record { front = front.now; list = [] }) }
     {
+        let mut octets = Vec::with_capacity(alloc, FIRST_ROOM)?;
+        octets.extend_from_slice(front)?;
         Ok(AvpWriter {
-            octets: Vec::from_slice(alloc, front)?,
+            octets,
             front: front.len(),
         })
     }

@@ -2,6 +2,7 @@
 use Rattle.std.proofs.Common.{◌≡◌, ℕ, ◌+◌, ◌≤◌, Bool, true, false, cond, List, [], ◌∷◌, ◌++◌, length, drop, replicate, refl, sym, ap, subst, ◌∙◌, append_assoc, arith}
 use Rattle.std.specs.List.{AllByRecursion}
 use Rattle.std.proofs.lemmas.List.{take_at, drop_at, drop-drop, append-nil, length-append, flat_map_more}
+use Rattle.std.proofs.lemmas.Grind.{flat_map-append}
 use Rattle.radius_packet.specs.Packet.{AttributeParts, attribute_text, attributes_text}
 use Rattle.radius_packet.specs.Seals.{ReplyParts, roomy_attributes, draft_text, draft_in, reply_length, IsDraft}
 use Rattle.radius_packet.proofs.Reading.{attributes_in-text}
@@ -71,6 +72,33 @@ drafts_push sealed octets next value code size draft e es short fits =
     let joined : next ≡ octets ++ attribute_text a = e ∙ append_assoc octets (code ∷ size ∷ []) value ∙ ap (λ (n : ℕ). octets ++ code ∷ n ∷ value) es in
     drafts (with_more r a) next (joined ∙ ap (λ (xs : List ℕ). xs ++ attribute_text a) draft.text ∙ text_push r a) draft.request
     (values_push r.attributes a draft.values short) (omega (arith, ap length joined, length-append octets (attribute_text a)))
+
+-- ---- further attributes
+
+values_joined : (list more : List AttributeParts) → AllByRecursion (λ x. length x.value ≤ 253) list → AllByRecursion (λ x. length x.value ≤ 253) more → AllByRecursion (λ x. length x.value ≤ 253) (list ++ more)
+values_joined [] more values others = others
+values_joined (x ∷ list) more values others = (values.0, values_joined list more values.1 others)
+
+roomy_joined : (sealed : Bool) (list more : List AttributeParts) → roomy_attributes sealed list ++ more ≡ roomy_attributes sealed (list ++ more)
+roomy_joined true list more = refl
+roomy_joined false list more = refl
+
+abbrev pub with_joined : ReplyParts → List AttributeParts → ReplyParts
+with_joined r more = record r { attributes = r.attributes ++ more }
+
+text_joined : (r : ReplyParts) (more : List AttributeParts) → draft_text r ++ attributes_text more ≡ draft_text (with_joined r more)
+text_joined r more =
+    let front : List ℕ = r.code ∷ r.id ∷ 0 ∷ 0 ∷ r.request in
+    append_assoc front (attributes_text (roomy_attributes r.sealed r.attributes)) (attributes_text more)
+    ∙ ap (λ (xs : List ℕ). front ++ xs) (sym (flat_map-append attribute_text (roomy_attributes r.sealed r.attributes) more))
+    ∙ ap (λ (list : List AttributeParts). front ++ attributes_text list) (roomy_joined r.sealed r.attributes more)
+
+pub drafts_joined : (sealed : Bool) (octets next : List ℕ) (more : List AttributeParts) → IsDraft sealed octets → next ≡ octets ++ attributes_text more → AllByRecursion (λ x. length x.value ≤ 253) more
+    → length octets + length (attributes_text more) ≤ 4096 → Drafts (with_joined (draft_in sealed octets) more) next
+drafts_joined sealed octets next more draft e values fits =
+    let r : ReplyParts = draft_in sealed octets in
+    drafts (with_joined r more) next (e ∙ ap (λ (xs : List ℕ). xs ++ attributes_text more) draft.text ∙ text_joined r more) draft.request
+    (values_joined r.attributes more draft.values values) (omega (arith, ap length e, length-append octets (attributes_text more)))
 
 -- ---- the beginning
 

@@ -1,11 +1,11 @@
 //! A reply, written in place (RFC 2865, section 3).
 
-ghost use Rattle.std.specs.Prelude.{◌≡◌, ℕ, ◌+◌, ◌≤◌, List, [], ◌∷◌, ◌++◌, length, take, drop, is_ok, IfOk, OnOk, OnErr, vec_len};
+ghost use Rattle.std.specs.Prelude.{◌≡◌, ℕ, ◌+◌, ◌≤◌, nat_le, List, [], ◌∷◌, ◌++◌, length, take, drop, is_ok, IfOk, OnOk, OnErr, vec_len};
 ghost use Rattle.std.specs.Vec.{vec_capacity};
 ghost use Rattle.md5.specs.Md5.{md5};
 ghost use Rattle.hmac_md5.specs.Hmac.{hmac_of};
-ghost use Rattle.radius_packet.specs.Packet.{IsPacket};
-ghost use Rattle.radius_packet.specs.Seals.{Signed, IsDraft, draft_in, sealed_attributes, reply_text, has_room};
+ghost use Rattle.radius_packet.specs.Packet.{IsPacket, attributes_in, attributes_text};
+ghost use Rattle.radius_packet.specs.Seals.{Signed, IsDraft, draft_in, sealed_attributes, reply_length, reply_text, has_room};
 
 use crate::sizes::{HEADER, MOST, SEAL};
 use hmac_md5::hmac;
@@ -113,6 +113,22 @@ impl Reply {
         append(&mut self.octets, &[code, value.len() as u8 + 2]);
         append(&mut self.octets, value);
         Ok(())
+    }
+
+    /// Puts whole attributes at the end, with their headers, as they stand in a packet. The reply is unchanged where there
+    /// is no room.
+    pub fn push_joined(&mut self, attributes: &[u8]) -> Result<(), Full>
+        requires { attributes.now ≡ attributes_text (attributes_in attributes.now) }
+        ensures room { is_ok result ≡ nat_le (reply_length self.old + length attributes.now) 4096 }
+        ensures ok { OnOk result (self.new ≡ record self.old { attributes = self.old.attributes ++ attributes_in attributes.now }) }
+        ensures err { OnErr result (self.new ≡ self.old) }
+    {
+        if self.octets.len() + attributes.len() <= MOST {
+            append(&mut self.octets, attributes);
+            Ok(())
+        } else {
+            Err(Full)
+        }
     }
 
     /// The signed packet: the Message-Authenticator, where there is one, and then the Response Authenticator are

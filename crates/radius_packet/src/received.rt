@@ -1,6 +1,7 @@
 //! A packet that was received.
 
 ghost use Rattle.std.specs.Prelude.{◌≡◌, ◌≤◌, ◌↔◌, ℕ, IfOk, Ok, Err, length, drop};
+ghost use Rattle.std.specs.List.{AllByRecursion};
 ghost use Rattle.std.specs.Result.{result_err};
 ghost use Rattle.radius_packet.specs.Packet.{PacketParts, IsPacket, attributes_text, packet_text, whole, BreaksAt, read_packet, read_attributes};
 ghost use Rattle.radius_packet.specs.Faults.{IsShort, HasBadLength, HasBadAttribute};
@@ -117,6 +118,7 @@ impl<'a> Packet<'a> {
         ensures value { result ≡ self.now.attributes }
         ensures count { length self.now.attributes ≤ 2038 }
         ensures size { length (attributes_text self.now.attributes) ≤ 4076 }
+        ensures values { AllByRecursion (λ a. length a.value ≤ 253) self.now.attributes }
     {
         Attributes::new(&self.octets[HEADER..])
     }

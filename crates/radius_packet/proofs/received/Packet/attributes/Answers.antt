@@ -10,3 +10,6 @@ returns-clause-count c = rw (← c.self.view_is) (tail_count _ _ c.self.invarian
 
 pub returns-clause-size : goal.returns-clause-size
 returns-clause-size c = rw (← c.self.view_is) (tail_size _ _ c.self.invariant)
+
+pub returns-clause-values : goal.returns-clause-values
+returns-clause-values c = rw (← c.self.view_is) c.self.invariant.values
