@@ -1,3 +1,4 @@
-pub mod ClientLimits
-pub mod Pieces
-pub mod Summaries
+pub mod ChapLemmas
+pub mod CredentialLemmas
+pub mod PieceLemmas
+pub mod VerdictLemmas

@@ -1,3 +1,4 @@
-pub mod Answers
+pub mod Credentials
+pub mod Passing
 pub mod Requests
-pub mod Summary
+pub mod Verdict

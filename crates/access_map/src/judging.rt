@@ -1,57 +1,142 @@
-//! Whether an Access-Request is translated.
+//! Whether an Access-Request is translated, and as what.
 
-ghost use Rattle.std.specs.Prelude.{◌≡◌};
-ghost use Rattle.std.specs.List.{list_all};
+ghost use Rattle.std.specs.Prelude.{◌≡◌, ◌<◌, ◌||◌, ℕ};
+ghost use Rattle.password_hiding.specs.Hiding as hiding;
+ghost use Rattle.radius_packet.specs.Checks.{seal_of};
 ghost use Rattle.radius_packet.specs.Views.{attribute_view};
-ghost use Rattle.attribute_table.specs.Rows.{row_of};
-ghost use Rattle.access_map.specs.Requests as specs;
+ghost use Rattle.access_map.specs.Credentials as found;
+ghost use Rattle.access_map.specs.Verdict as specs;
+ghost use Rattle.translation.specs.Faults.{faults_in};
+ghost use Rattle.translation.specs.declared.direction.Direction.TheVariants.{Access};
 
-use crate::codes::{NAS_IDENTIFIER, NAS_PORT, USER_NAME};
+use crate::codes::{CHAP_PASSWORD, USER_PASSWORD};
 use agent_config::Client;
-use attribute_table::{forward, row_of_type};
-use radius_packet::{Attribute, Packet, Reason};
+use radius_packet::{Attribute, Packet, Reason, Seal};
 use session_carrier::Kind2;
+use translation::{Direction, Faults, is_eap};
 
-/// Whether this is a User-Name without a realm, a NAS-Port or a NAS-Identifier.
-fn is_built_type(attribute: &Attribute<'_>) -> bool
-    ensures { result ≡ specs.is_built_type (attribute_view attribute.now) }
-{
-    attribute.code == USER_NAME && !attribute.value.contains(&b'@')
-        || attribute.code == NAS_PORT
-        || attribute.code == NAS_IDENTIFIER
+/// What a packet has to authenticate by.
+#[derive(Clone, Copy, Debug)]
+struct Credentials {
+    /// Whether there is an EAP-Message.
+    eap: bool,
+    /// How many passwords there are.
+    passwords: usize,
+    /// Whether one of them has a wrong size.
+    bad: bool,
 }
 
-/// Whether the value has the size and the text that its row wants.
-fn has_image(attribute: &Attribute<'_>) -> bool
-    ensures { let a = attribute_view attribute.now in result ≡ specs.has_image (row_of a.code) a.value }
+/// What one pass over the attributes finds.
+#[derive(Clone, Copy, Debug)]
+struct Reading {
+    faults: Faults,
+    credentials: Credentials,
+}
+
+fn is_password(attribute: &Attribute<'_>) -> bool
+    ensures { result ≡ specs.is_password (attribute_view attribute.now) }
 {
-    match row_of_type(attribute.code) {
-        Some(row) => forward(&row, attribute.value).is_ok(),
-        None => false,
+    attribute.code == USER_PASSWORD || attribute.code == CHAP_PASSWORD
+}
+
+/// Whether so many octets can hide a password (RFC 2865, section 5.2).
+fn is_hidden_length(length: usize) -> bool
+    ensures { result ≡ hiding.is_hidden_length length }
+{
+    16 <= length && length <= 128 && length % 16 == 0
+}
+
+fn is_bad_password(attribute: &Attribute<'_>) -> bool
+    ensures { result ≡ specs.is_bad_password (attribute_view attribute.now) }
+{
+    attribute.code == USER_PASSWORD && !is_hidden_length(attribute.value.len())
+        || attribute.code == CHAP_PASSWORD && attribute.value.len() != 17
+}
+
+/// What is there with one attribute more.
+fn noted(before: Credentials, attribute: &Attribute<'_>) -> Credentials
+    requires { before.passwords < 4096 }
+    ensures { result ≡ found.noted before (attribute_view attribute.now) }
+{
+    Credentials {
+        eap: before.eap || is_eap(attribute),
+        passwords: before.passwords + usize::from(is_password(attribute)),
+        bad: before.bad || is_bad_password(attribute),
     }
 }
 
-fn is_built_attribute(attribute: &Attribute<'_>) -> bool
-    ensures { result ≡ specs.is_built_attribute (attribute_view attribute.now) }
+fn read(client: &Client, address: u32, packet: &Packet<'_>) -> Reading
+    ensures faults { result.faults ≡ faults_in client.now address Access packet.now.attributes }
+    ensures credentials { result.credentials ≡ found.credentials_in packet.now.attributes }
 {
-    is_built_type(attribute) && has_image(attribute)
+    let mut faults = Faults::none();
+    let mut credentials = Credentials {
+        eap: false,
+        passwords: 0,
+        bad: false,
+    };
+    for attribute in packet.attributes() {
+        faults = faults.note(client, address, Direction::Access, &attribute);
+        credentials = noted(credentials, &attribute);
+    }
+    Reading {
+        faults,
+        credentials,
+    }
 }
 
-fn are_built(packet: &Packet<'_>) -> bool
-    ensures { result ≡ list_all specs.is_built_attribute packet.now.attributes }
+/// What speaks against the Message-Authenticator, or against there being none.
+fn seal_reason(client: &Client, packet: &Packet<'_>, eap: bool) -> Option<Reason>
+    ensures { result ≡ specs.seal_reason_of (client.now.require_seal || eap) (seal_of client.now.secret packet.now) }
 {
-    packet.attributes().all(|a| is_built_attribute(&a))
+    match packet.check_seal(client.secret.as_slice()) {
+        Seal::Absent if client.require_seal || eap => Some(Reason::NoSeal),
+        Seal::Wrong => Some(Reason::BadSeal),
+        Seal::Absent | Seal::Right => None,
+    }
 }
 
-/// Access for an Access-Request that is translated: each attribute is a User-Name without a realm, a NAS-Port or a
-/// NAS-Identifier, with the size and the text that it must have, and the client needs no Message-Authenticator. Any
-/// other is refused with `NotYet`. The source address is not looked at.
-pub fn judge(client: &Client, address: u32, packet: &Packet<'_>) -> Result<Kind2, Reason>
-    ensures { result ≡ specs.judgement client.now packet.now }
+/// What speaks against the passwords.
+fn password_reason(credentials: &Credentials) -> Option<Reason>
+    ensures { result ≡ found.password_reason credentials.now }
 {
-    if !client.require_seal && are_built(packet) {
-        Ok(Kind2::Access)
+    if credentials.passwords > 1 || credentials.passwords > 0 && credentials.eap {
+        Some(Reason::BothPasswords)
+    } else if credentials.bad {
+        Some(Reason::BadPassword)
     } else {
-        Err(Reason::NotYet)
+        None
+    }
+}
+
+/// The first reason against an Access-Request of which this was read.
+#[tactic(auto, using(translation::proofs::FaultLemmas::reason_of_faults_in))]
+fn reason(client: &Client, packet: &Packet<'_>, reading: &Reading) -> Option<Reason>
+    requires { reading.now.credentials ≡ found.credentials_in packet.now.attributes }
+    ensures { (source : ℕ) → reading.now.faults ≡ faults_in client.now source Access packet.now.attributes
+        → result ≡ specs.access_reason client.now source packet.now }
+{
+    if let Some(reason) = seal_reason(client, packet, reading.credentials.eap) {
+        return Some(reason);
+    }
+    if reading.faults.foreign {
+        return Some(Reason::NasAddress);
+    }
+    if let Some(reason) = password_reason(&reading.credentials) {
+        return Some(reason);
+    }
+    reading.faults.reason()
+}
+
+/// What an Access-Request of this client from this address asks for, or the first reason against it.
+#[tactic(auto, unfolding(crate::specs::Verdict::verdict))]
+pub fn judge(client: &Client, address: u32, packet: &Packet<'_>) -> Result<Kind2, Reason>
+    ensures { result ≡ specs.verdict client.now address packet.now }
+{
+    let reading = read(client, address, packet);
+    match reason(client, packet, &reading) {
+        Some(reason) => Err(reason),
+        None if reading.credentials.eap => Ok(Kind2::Eap),
+        None => Ok(Kind2::Access),
     }
 }

@@ -4,12 +4,14 @@
 mod answers;
 mod codes;
 mod judging;
+mod passwords;
 mod requests;
-mod summary;
 
-pub use answers::{answer, is_built_answer};
+pub use answers::answer;
 pub use judging::judge;
 pub use requests::request;
 
 #[cfg(test)]
 mod tests;
+#[cfg(test)]
+mod vectors;

@@ -1,188 +1,244 @@
+ghost use Rattle.std.specs.Prelude.{◌≡◌, ◌≤◌, length, IfOk, IfSome};
+ghost use Rattle.radius_packet.specs.Packet.{attributes_in, attributes_text};
+ghost use Rattle.session_carrier.specs.Route.{route_view};
+
 use super::*;
+use crate::vectors::{ANSWERS, JUDGED, NAMED, REQUESTS};
 use agent_config::{AddressList, Client, is_client_in_limits};
 use diameter_message::parse;
 use radius_packet::{Packet, Reason};
-use session_carrier::{Kept, Kind2, Numbers, Route};
+use session_carrier::{Kept, Kind2, Numbers, Outcome, Route};
 use std::alloc::Global;
+use std::process::Abort;
 use std::test::Fail;
-use wire_core::{NoMemory, Octets};
+use translation::proxy_states;
+use wire_core::{NoMemory, Octets, is_identity, is_session_text};
 
 const ADDRESS: u32 = 0xc0a8_0110;
-
-const SESSION: &[u8] = b"agent.example;7;0";
 
 const NUMBERS: Numbers = Numbers {
     hop: 0,
     end: 0x0070_0000,
 };
 
-// An Access-Request without a password.
-const REQUEST: &[u8] =
-    b"\x01\x05\x00\x26\x00\x01\x02\x03\x04\x05\x06\x07\x08\x09\x0a\x0b\x0c\x0d\x0e\x0f\
-    \x01\x06nemo\x20\x06nas1\x05\x06\x00\x00\x00\x03";
+/// What stands before the next bar, and the rest.
+fn cut(case: &str) -> (&str, &str) {
+    case.split_once('|').unwrap_or((case, ""))
+}
 
-// Its AA-Request.
-const AA_REQUEST: &[u8] =
-    b"\x01\x00\x00\xac\xc0\x00\x01\x09\x00\x00\x00\x01\x00\x00\x00\x00\x00\x70\x00\x00\
-    \x00\x00\x01\x07\x40\x00\x00\x19agent.example;7;0\x00\x00\x00\
-    \x00\x00\x01\x02\x40\x00\x00\x0c\x00\x00\x00\x01\
-    \x00\x00\x01\x08\x40\x00\x00\x14nas1.example\
-    \x00\x00\x01\x28\x40\x00\x00\x0fexample\x00\
-    \x00\x00\x01\x1b\x40\x00\x00\x0fexample\x00\
-    \x00\x00\x01\x12\x40\x00\x00\x0c\x00\x00\x00\x02\
-    \x00\x00\x01\x98\x40\x00\x00\x0c\x00\x00\x00\x01\
-    \x00\x00\x00\x01\x40\x00\x00\x0cnemo\
-    \x00\x00\x00\x20\x40\x00\x00\x0cnas1\
-    \x00\x00\x00\x05\x40\x00\x00\x0c\x00\x00\x00\x03";
+/// The hex digits of a word, which may be a name.
+fn digits(word: &str) -> &str {
+    for line in NAMED.lines() {
+        let (name, octets) = line.split_once(' ').unwrap_or((line, ""));
+        if name == word {
+            return octets;
+        }
+    }
+    word
+}
 
-// An AA-Answer of DIAMETER_SUCCESS.
-const AA_ANSWER: [u8; 120] =
-    *b"\x01\x00\x00\x78\x40\x00\x01\x09\x00\x00\x00\x01\x00\x00\x00\x00\x00\x70\x00\x00\
-    \x00\x00\x01\x07\x40\x00\x00\x19agent.example;7;0\x00\x00\x00\
-    \x00\x00\x01\x02\x40\x00\x00\x0c\x00\x00\x00\x01\
-    \x00\x00\x01\x12\x40\x00\x00\x0c\x00\x00\x00\x03\
-    \x00\x00\x01\x0c\x40\x00\x00\x0c\x00\x00\x07\xd1\
-    \x00\x00\x01\x08\x40\x00\x00\x14home.example\
-    \x00\x00\x01\x28\x40\x00\x00\x0fexample\x00";
+/// The octets of words.
+fn octets(alloc: Global, words: &str) -> Result<Vec<u8>, Fail> {
+    let mut octets = Vec::new(alloc);
+    for word in words.split(' ') {
+        let (word, count) = word.split_once('*').unwrap_or((word, "1"));
+        let piece = hex::decode(alloc, digits(word))?;
+        for _ in 0..count.parse::<u32>()? {
+            octets.extend_from_slice(&piece)?;
+        }
+    }
+    Ok(octets)
+}
 
-// The seals were computed by an independent MD5.
-const ACCEPT: &[u8] =
-    b"\x02\x05\x00\x42\xfb\xcf\xbf\x2a\xb3\xbd\xf4\x07\xf6\xd3\x71\x83\xb5\x8b\x00\x16\
-    \x50\x12\x97\x0f\x75\xc8\x2f\x03\xfd\x63\x58\x58\x86\x4d\x0d\xc5\x88\xa8\
-    \x19\x1cDiameter/agent.example;7;0";
+/// The octets of words behind two octets and the length of all.
+fn framed(alloc: Global, front: [u8; 2], words: &str) -> Result<Vec<u8>, Fail> {
+    let rest = octets(alloc, words)?;
+    let length = u16::try_from(rest.len().saturating_add(4))?;
+    let mut framed = Vec::from_slice(alloc, &front)?;
+    framed.extend_from_slice(&length.to_be_bytes())?;
+    framed.extend_from_slice(&rest)?;
+    Ok(framed)
+}
 
-const REJECT: &[u8] =
-    b"\x03\x05\x00\x26\x66\x29\xc4\x96\xc5\xf0\x2b\xed\xd9\xc2\x72\x99\xb2\xbd\xa9\xce\
-    \x50\x12\x5c\x3a\x9d\x4b\x63\xa4\x57\x0b\xf5\x63\x17\xdc\x11\x4f\x20\x67";
+/// An Access-Request.
+fn packet(alloc: Global, words: &str) -> Result<Vec<u8>, Fail> {
+    framed(alloc, [1, 5], words)
+}
 
-fn client(alloc: Global) -> Result<Client, NoMemory> {
+/// The Proxy-States of a packet, joined.
+fn proxies(alloc: Global, words: &str) -> Result<Octets, Fail>
+    ensures { IfOk result (λ o. o ≡ attributes_text (attributes_in o)) }
+{
+    let octets = packet(alloc, words)?;
+    let packet = Packet::parse(&octets)?;
+    Ok(proxy_states(alloc, &packet)?)
+}
+
+/// A message of Diameter.
+fn message(alloc: Global, words: &str) -> Result<Vec<u8>, Fail> {
+    framed(alloc, [1, 0], words)
+}
+
+fn client(alloc: Global, setting: &str) -> Result<Client, NoMemory> {
     Ok(Client {
         name: Octets::copy(alloc, b"nas1")?,
         address: ADDRESS,
         secret: Octets::copy(alloc, b"xyzzy5461")?,
         origin_host: Octets::copy(alloc, b"nas1.example")?,
         origin_realm: Octets::copy(alloc, b"example")?,
-        require_seal: false,
-        omit_keys: false,
-        nas: AddressList::from_vec(Vec::new(alloc)),
+        require_seal: setting == "seal",
+        omit_keys: setting == "omit",
+        nas: AddressList::from_vec(Vec::from_slice(alloc, &[0x0a00_0009])?),
     })
 }
 
-fn kept(alloc: Global, proxy: &[u8]) -> Result<Kept, NoMemory> {
+fn route(setting: &str) -> (Route<'_>, Numbers)
+    ensures session { length (route_view result.0).session ≤ 244 }
+    ensures realm { length (route_view result.0).realm ≤ 255 }
+    ensures host { IfSome (route_view result.0).host (λ host. length host ≤ 255) }
+{
+    if setting == "far" {
+        let route = Route {
+            session: b"a/b;1",
+            realm: b"r",
+            host: Some(b"h"),
+        };
+        let numbers = Numbers {
+            hop: 0xffff_fffe,
+            end: 0xffff_ffff,
+        };
+        (route, numbers)
+    } else {
+        let route = Route {
+            session: b"agent.example;7;0",
+            realm: b"example",
+            host: None,
+        };
+        (route, NUMBERS)
+    }
+}
+
+/// What is kept of a request with a session of 17 octets, or of 244.
+fn kept(alloc: Global, setting: &str, proxy: &str) -> Result<Kept, Fail>
+    ensures { IfOk result (λ k. k.proxy ≡ attributes_text (attributes_in k.proxy)) }
+{
+    let session = if setting == "long" {
+        "61*244"
+    } else {
+        "own-session"
+    };
     Ok(Kept {
         kind: Kind2::Access,
         client: 0,
         id: 5,
         authenticator: [0, 1, 2, 3, 4, 5, 6, 7, 8, 9, 10, 11, 12, 13, 14, 15],
-        proxy: Octets::copy(alloc, proxy)?,
-        session: Octets::copy(alloc, SESSION)?,
+        proxy: proxies(alloc, proxy)?,
+        session: Octets::from_vec(octets(alloc, session)?),
         realm: Octets::copy(alloc, b"example")?,
         cause: 0,
     })
 }
 
-// The answer with these octets at this place.
-fn changed(place: usize, octets: &[u8]) -> [u8; 120] {
-    let mut answer = AA_ANSWER;
-    for (to, from) in answer.iter_mut().skip(place).zip(octets) {
-        *to = *from;
+/// The octets, where there are some.
+fn shown(octets: &Option<Octets>) -> &[u8] {
+    match octets {
+        Some(octets) => octets.as_slice(),
+        None => b"",
     }
-    answer
+}
+
+/// The number of the kind or of the reason, and the type in it.
+fn numbers_of(verdict: Result<Kind2, Reason>) -> (u32, u8) {
+    match verdict {
+        Ok(Kind2::Access) => (0, 0),
+        Ok(_) => (1, 0),
+        Err(Reason::BadValue { code }) => (15, code),
+        Err(reason) => (reason.number(), 0),
+    }
+}
+
+#[test]
+fn judges(rt: HostRuntime) -> Result<(), Fail> {
+    for case in JUDGED.lines() {
+        let (name, rest) = cut(case);
+        let (setting, rest) = cut(rest);
+        let (given, rest) = cut(rest);
+        let (number, code) = cut(rest);
+        let client = client(rt.alloc(), setting)?;
+        let octets = packet(rt.alloc(), given)?;
+        let packet = Packet::parse(&octets)?;
+        let judged = numbers_of(judge(&client, ADDRESS, &packet));
+        assert_eq!(rt;
+            judged,
+            (number.parse::<u32>()?, code.parse::<u8>()?),
+            "{name}"
+        );
+    }
+    Ok(())
+}
+
+/// The request of a packet that is translated.
+fn requested(
+    rt: &impl Abort,
+    alloc: Global,
+    client: &Client,
+    octets: &[u8],
+    setting: &str,
+) -> Result<Octets, Fail> {
+    let packet = Packet::parse(octets)?;
+    assert!(rt; matches!(judge(client, ADDRESS, &packet), Ok(Kind2::Access)));
+    assert!(rt; is_client_in_limits(client));
+    let (route, numbers) = route(setting);
+    Ok(request(alloc, client, &packet, &route, numbers)?)
 }
 
 #[test]
 fn requests(rt: HostRuntime) -> Result<(), Fail> {
-    let client = client(rt.alloc())?;
-    assert!(rt; is_client_in_limits(&client));
-    let packet = Packet::parse(REQUEST)?;
-    assert!(rt; matches!(judge(&client, ADDRESS, &packet), Ok(Kind2::Access)));
-    let route = Route {
-        session: SESSION,
-        realm: b"example",
-        host: None,
-    };
-    let octets = request(rt.alloc(), &client, &packet, &route, NUMBERS)?;
-    assert_eq!(rt; octets.as_slice(), AA_REQUEST);
-    Ok(())
-}
-
-#[test]
-fn refusals(rt: HostRuntime) -> Result<(), Fail> {
-    let mut client = client(rt.alloc())?;
-    let packets: [&[u8]; 4] = [
-        // with a password (RFC 2865, section 7.1)
-        b"\x01\x00\x00\x38\x0f\x40\x3f\x94\x73\x97\x80\x57\xbd\x83\xd5\xcb\x98\xf4\x22\x7a\
-            \x01\x06nemo\x02\x12\x0d\xbe\x70\x8d\x93\xd4\x13\xce\x31\x96\xe4\x3f\x78\x2a\x0a\xee\
-            \x04\x06\xc0\xa8\x01\x10\x05\x06\x00\x00\x00\x03",
-        // with a realm in the User-Name
-        b"\x01\x05\x00\x26\x00\x01\x02\x03\x04\x05\x06\x07\x08\x09\x0a\x0b\x0c\x0d\x0e\x0f\
-            \x01\x06n@mo\x20\x06nas1\x05\x06\x00\x00\x00\x03",
-        // with a User-Name that is not UTF-8
-        b"\x01\x05\x00\x26\x00\x01\x02\x03\x04\x05\x06\x07\x08\x09\x0a\x0b\x0c\x0d\x0e\x0f\
-            \x01\x06nem\xff\x20\x06nas1\x05\x06\x00\x00\x00\x03",
-        // with a NAS-Port of three octets
-        b"\x01\x05\x00\x25\x00\x01\x02\x03\x04\x05\x06\x07\x08\x09\x0a\x0b\x0c\x0d\x0e\x0f\
-            \x01\x06nemo\x20\x06nas1\x05\x05\x00\x00\x03",
-    ];
-    for octets in packets {
-        let packet = Packet::parse(octets)?;
-        assert_eq!(rt; judge(&client, ADDRESS, &packet), Err(Reason::NotYet));
-    }
-    client.require_seal = true;
-    let packet = Packet::parse(REQUEST)?;
-    assert_eq!(rt; judge(&client, ADDRESS, &packet), Err(Reason::NotYet));
-    Ok(())
-}
-
-#[test]
-fn replies(rt: HostRuntime) -> Result<(), Fail> {
-    let client = client(rt.alloc())?;
-    let kept = kept(rt.alloc(), b"")?;
-    let cases: [(usize, &[u8], &[u8]); 3] = [
-        (0, b"", ACCEPT),
-        (82, b"\x0f\xa1", REJECT),
-        // 4001 in a Result-Code before that of 2001
-        (
-            48,
-            b"\x00\x00\x01\x0c\x40\x00\x00\x0c\x00\x00\x0f\xa1",
-            REJECT,
-        ),
-    ];
-    for (place, octets, wanted) in cases {
-        let octets = changed(place, octets);
-        let message = parse(&octets)?;
-        assert!(rt; is_built_answer(&kept, &message));
-        assert!(rt; kept.session.len() <= 244);
-        let outcome = answer(rt.alloc(), &client, &kept, &message, NUMBERS)?;
-        let reply = outcome.reply.ok_or("a reply")?;
-        assert_eq!(rt; reply.as_slice(), wanted);
-        assert!(rt; outcome.follow.is_none());
+    let client = client(rt.alloc(), "plain")?;
+    for case in REQUESTS.lines() {
+        let (name, rest) = cut(case);
+        let (setting, rest) = cut(rest);
+        let (given, wanted) = cut(rest);
+        let given = packet(rt.alloc(), given)?;
+        let written = requested(&rt, rt.alloc(), &client, &given, setting)?;
+        let wanted = message(rt.alloc(), wanted)?;
+        assert_eq!(rt; written.as_slice(), wanted.as_slice(), "{name}");
     }
     Ok(())
 }
 
+/// What an answer causes.
+fn answered(
+    rt: &impl Abort,
+    alloc: Global,
+    client: &Client,
+    kept: &Kept,
+    octets: &[u8],
+) -> Result<Outcome, Fail>
+    requires { kept.now.proxy ≡ attributes_text (attributes_in kept.now.proxy) }
+{
+    let message = parse(octets)?;
+    assert!(rt; is_client_in_limits(client));
+    assert!(rt; kept.session.len() <= 244 && kept.realm.len() <= 255 && kept.proxy.len() <= 2048);
+    Ok(answer(alloc, client, kept, &message, NUMBERS)?)
+}
+
 #[test]
-fn other_answers(rt: HostRuntime) -> Result<(), Fail> {
-    let kept_one = kept(rt.alloc(), b"")?;
-    let cases: [(&str, usize, &[u8]); 10] = [
-        ("the R flag", 4, b"\xc0"),
-        ("the E flag", 4, b"\x60"),
-        ("another command", 7, b"\x0a"),
-        ("another session", 28, b"b"),
-        ("a second Session-Id", 51, b"\x07"),
-        ("no Session-Id", 23, b"\x08"),
-        ("an unknown AVP", 63, b"\x13"),
-        ("an AVP of a vendor", 64, b"\xc0"),
-        ("a further round", 82, b"\x03\xe9"),
-        ("a bad length", 27, b"\x07"),
-    ];
-    for (name, place, octets) in cases {
-        let octets = changed(place, octets);
-        let message = parse(&octets)?;
-        assert!(rt; !is_built_answer(&kept_one, &message), "{name}");
+fn answers(rt: HostRuntime) -> Result<(), Fail> {
+    for case in ANSWERS.lines() {
+        let (name, rest) = cut(case);
+        let (setting, rest) = cut(rest);
+        let (proxy, rest) = cut(rest);
+        let (given, rest) = cut(rest);
+        let (reply, follow) = cut(rest);
+        let client = client(rt.alloc(), setting)?;
+        let kept = kept(rt.alloc(), setting, proxy)?;
+        let given = message(rt.alloc(), given)?;
+        let outcome = answered(&rt, rt.alloc(), &client, &kept, &given)?;
+        let reply = octets(rt.alloc(), reply)?;
+        assert_eq!(rt; shown(&outcome.reply), reply.as_slice(), "{name}");
+        let follow = octets(rt.alloc(), follow)?;
+        assert_eq!(rt; shown(&outcome.follow), follow.as_slice(), "{name}");
     }
-    let with_proxy = kept(rt.alloc(), b"\x21\x03p")?;
-    let message = parse(&AA_ANSWER)?;
-    assert!(rt; !is_built_answer(&with_proxy, &message));
     Ok(())
 }

@@ -4,12 +4,11 @@ use Rattle.radius_packet.specs.declared.reasons.Reason.{Reason}
 use Rattle.diameter_message.specs.declared.fault.MessageFault.{MessageFault}
 use Rattle.diameter_message.specs.Message.{MessageParts}
 use Rattle.agent_config.specs.declared.config.Config.{Config}
-use Rattle.access_map.specs.Answers.{is_answer, is_built_answer, outcome}
 use Rattle.pending_table.specs.declared.Key.{Key}
 use Rattle.agent_core.specs.declared.events.Input.{Input}
 use Rattle.agent_core.specs.declared.events.Input.TheVariants.{Datagram, Up, Ready, Message, Broken, Down, Tick, Drain, Leave}
 use Rattle.agent_core.specs.History as history
-use Rattle.agent_core.specs.History.{Event, Place, Request, Taking, not_yet, still, is_serving, link}
+use Rattle.agent_core.specs.History.{Event, Place, Request, Taking, not_yet, still, is_answer, is_serving, link}
 use Rattle.agent_core.specs.Laws.{IsFew, OutputsAreFew}
 
 admitted_few : (config : Config) (ps : List Place) (m : ℕ) (input : Input) (request : Request) (o : Option Reason) → IsFew (history.admitted config ps m input request o)
@@ -29,13 +28,13 @@ datagram_few : (config : Config) (ps : List Place) (m : ℕ) (input : Input) (r 
 datagram_few config ps m input (Err reason) = omega arith
 datagram_few config ps m input (Ok request) = requested_few config ps m input request _
 
+settled_few : (m : ℕ) (input : Input) (t : Taking) (reply : Option (List ℕ)) → IsFew (history.settled m input t reply)
+settled_few m input t (Some reply) = omega arith
+settled_few m input t None = omega arith
+
 answered_few : (config : Config) (ps : List Place) (m : ℕ) (input : Input) (message : MessageParts) (o : Option Taking) → IsFew (history.answered config ps m input message o)
 answered_few config ps m input message None = omega arith
-answered_few config ps m input message (Some t) =
-    elim (is_built_answer t.kept message) as (λ b. IsFew (cond b (record { moment = m; input = input; taken = None; matched = Some t; outputs = history.outcome_outputs t.key (outcome t.settings t.kept message) }) (not_yet m input))) [
-      | true ↦ omega arith
-      | false ↦ omega arith
-    ]
+answered_few config ps m input message (Some t) = settled_few m input t _
 
 messaged_few : (config : Config) (ps : List Place) (m : ℕ) (input : Input) (r : Result MessageParts MessageFault) → IsFew (history.messaged config ps m input r)
 messaged_few config ps m input (Err fault) = omega arith

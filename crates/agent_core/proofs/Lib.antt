@@ -8,5 +8,4 @@ pub mod Limits
 pub mod Considered
 pub mod Steady
 pub mod Promises
-pub mod Judged
 pub mod Few

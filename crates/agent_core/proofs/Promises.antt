@@ -27,6 +27,7 @@ lasts law config within small =
           let short = law config.host (boot config) n (boot-fits config.boot small) few in
           let host = l.host in
           omega arith;
+      realm = let short = l.home_realm in omega arith;
     }
 
 pub core-lasts : FreshSessionsAreShort → (S : Ledger) → IsCore S → Lasts S.config

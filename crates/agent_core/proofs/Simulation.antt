@@ -19,7 +19,6 @@ use Rattle.radius_packet.specs.declared.fault.PacketFault.{PacketFault}
 use Rattle.radius_packet.specs.Packet.{PacketParts, read_packet}
 use Rattle.session_carrier.specs.declared.kept.Kind2.{Kind2}
 use Rattle.pending_table.specs.declared.Key.{Key}
-use Rattle.access_map.specs.Requests.{judgement}
 use Rattle.agent_core.specs.declared.events.Input.{Input}
 use Rattle.agent_core.specs.declared.events.Input.TheVariants.{Datagram, Up, Ready, Message, Broken, Down, Tick, Drain, Leave}
 use Rattle.peer_machine.specs.declared.Phase.TheVariants.{Serving}
@@ -28,14 +27,15 @@ use Rattle.agent_core.specs.declared.events.Output.{Output}
 use Rattle.agent_core.specs.declared.events.Output.TheVariants.{Send, Dropped}
 use Rattle.agent_core.specs.declared.ledger.Ledger.{Ledger}
 use Rattle.agent_core.specs.History as history
-use Rattle.agent_core.specs.History.{Place, Taking, Request, now, takings, answer_to, waits, is_at, link, begins_at, used, outbox, total, serial, live, waiting, boot, is_send, still, Rooms, rooms, end_number, request_sent}
+use Rattle.agent_core.specs.History.{Place, Taking, Request, now, takings, answer_to, waits, is_answer, is_at, link, begins_at, used, outbox, total, serial, live, waiting, boot, is_send, judgement, numbers_of, reply_output, still, Rooms, rooms, end_number, request_sent}
 use Rattle.agent_core.specs.Machine as machine
 use Rattle.agent_core.specs.Machine.{Next, says, rooms_of, entry_for, taken_up}
 use Rattle.agent_core.specs.Standing.{StandsAt, entry_of, answer_in, Ascending}
 use Rattle.std.proofs.lemmas.Option.{slice_get_within}
 use Rattle.diameter_message.specs.declared.fault.MessageFault.{MessageFault}
 use Rattle.diameter_message.specs.Message.{MessageParts}
-use Rattle.access_map.specs.Answers.{outcome, is_answer, is_built_answer}
+use Rattle.translation.specs.Answers.{outcome}
+use Rattle.translation.specs.declared.service.Service.TheVariants.{Nasreq}
 use Rattle.agent_core.proofs.Lists.{AllByRecursion-filter, find-All, filter-within, filter-map, find-map, find-filter, find-same, find-true, filter-same}
 use Rattle.agent_core.proofs.Keys.{same_key-equal}
 use Rattle.agent_core.proofs.Updates.{update_first-filter, update_first-map}
@@ -45,6 +45,7 @@ use Rattle.agent_core.proofs.Soundness.{IsSound, IsSound-still, IsSound-taking, 
 pub record Lasts (config : Config) : Type 0 where
   pub retention : 0 < config.retention
   pub session : (n : ℕ) → n < 18446744073709551616 → length (fresh_session config.host (boot config) n) ≤ 244
+  pub realm : length config.home_realm ≤ 255
 
 -- what is known before a step at the moment m
 pub record Before (ps : List Place) (m : ℕ) (S : Ledger) : Type 0 where
@@ -161,6 +162,11 @@ ready-follows ps m S b begun = record {
 end_number-mod : (config : Config) (n : ℕ) → end_number config (n % 4294967296) ≡ end_number config n
 end_number-mod config n = omega arith
 
+numbers-agree : (ps : List Place) (m : ℕ) (S : Ledger) → StandsAt ps m S → numbers_of S.config S.used S.total ≡ numbers_of S.config (used ps) (total ps)
+numbers-agree ps m S stands =
+    let number : end_number S.config S.total ≡ end_number S.config (total ps) = ap (end_number S.config) stands.total ∙ end_number-mod S.config (total ps) in
+    rw (stands.used, number) refl
+
 sent-agrees : (ps : List Place) (m : ℕ) (S : Ledger) (request : Request) → StandsAt ps m S → request_sent S.config request S.used S.total S.serial ≡ request_sent S.config request (used ps) (total ps) (serial ps)
 sent-agrees ps m S request stands =
     let number : end_number S.config S.total ≡ end_number S.config (total ps) = ap (end_number S.config) stands.total ∙ end_number-mod S.config (total ps) in
@@ -218,14 +224,9 @@ taken-follows ps m S b input quiet request fits admits = record {
 
 -- ---- a request is answered
 
-abbrev answered_place : Config → List Place → ℕ → Input → MessageParts → Taking → Place
-answered_place config ps m input message t = record {
-  moment = m;
-  input = input;
-  taken = None;
-  matched = Some t;
-  outputs = history.outcome_outputs t.key (outcome t.settings t.kept message);
-}
+abbrev answered_place : ℕ → Input → Taking → List ℕ → Place
+answered_place m input t reply =
+    record { moment = m; input = input; taken = None; matched = Some t; outputs = reply_output t.key (Some reply) }
 
 Ascending-filter : (p : Taking → Bool) (ts : List Taking) → Ascending ts → Ascending (filter p ts)
 Ascending-filter p [] up = up
@@ -245,23 +246,23 @@ matched-agrees ps m S hop t stands found =
     ∙ found
     )
 
-answered-entries : (ps : List Place) (m : ℕ) (S : Ledger) (input : Input) (message : MessageParts) (t : Taking) → Before ps m S → find (history.is_numbered (link ps).number message.header.hop) (waiting S.config ps m) ≡ Some t → table.live (machine.settled S message.header.hop (outcome t.settings t.kept message).reply).table m ≡ map (entry_of (answered_place S.config ps m input message t ∷ ps)) (live S.config ps m)
-answered-entries ps m S input message t b found =
-    let change = λ (e : Entry). record e { answer = table.answer_of (outcome t.settings t.kept message).reply } in
+answered-entries : (ps : List Place) (m : ℕ) (S : Ledger) (input : Input) (message : MessageParts) (t : Taking) (reply : List ℕ) → Before ps m S → find (history.is_numbered (link ps).number message.header.hop) (waiting S.config ps m) ≡ Some t → table.live (machine.settled S message.header.hop (Some reply)).table m ≡ map (entry_of (answered_place m input t reply ∷ ps)) (live S.config ps m)
+answered-entries ps m S input message t reply b found =
+    let change = λ (e : Entry). record e { answer = table.answer_of (Some reply) } in
     let lives = table.is_live S.table.retention m in
     let waits_there = λ (e : Entry). table.is_waiting e.answer in
     let numbered = table.has_number S.link message.header.hop in
     rw b.stands.moment (
     update_first-filter lives waits_there numbered change (λ e. refl) S.table.entries
     ∙ ap (update_first (λ e. waits_there e && numbered e) change) b.stands.entries
-    ∙ update_first-map (λ e. waits_there e && numbered e) change (entry_of ps) (entry_of (answered_place S.config ps m input message t ∷ ps)) t
+    ∙ update_first-map (λ e. waits_there e && numbered e) change (entry_of ps) (entry_of (answered_place m input t reply ∷ ps)) t
     (let here : t.place == t.place ≡ true = eq-eqb _ _ refl in rw here refl)
     (λ u apart. let there : t.place == u.place ≡ false = ne_eqb _ _ (λ (e : t.place ≡ u.place). apart (sym e)) in rw there refl)
     (live S.config ps m) (Ascending-filter _ (takings ps) b.sound.ascending) (matched-agrees ps m S message.header.hop t b.stands found)
     )
 
-pub answered-follows : (ps : List Place) (m : ℕ) (S : Ledger) → Before ps m S → (octets : List ℕ) (message : MessageParts) (t : Taking) → t.place < length ps → find (history.is_numbered (link ps).number message.header.hop) (waiting S.config ps m) ≡ Some t → Follows ps m S (answered_place S.config ps m (Message octets) message t) (says (machine.settled S message.header.hop (outcome t.settings t.kept message).reply) (history.outcome_outputs t.key (outcome t.settings t.kept message)))
-answered-follows ps m S b octets message t below found = record {
+pub answered-follows : (ps : List Place) (m : ℕ) (S : Ledger) → Before ps m S → (octets : List ℕ) (message : MessageParts) (t : Taking) (reply : List ℕ) → t.place < length ps → find (history.is_numbered (link ps).number message.header.hop) (waiting S.config ps m) ≡ Some t → Follows ps m S (answered_place m (Message octets) t reply) (says (machine.settled S message.header.hop (Some reply)) (reply_output t.key (Some reply)))
+answered-follows ps m S b octets message t reply below found = record {
   sound = IsSound-still S.config ps m (Message octets) (Some t) _ b.later (λ n ahead. not-ahead ps t n below ahead) b.sound;
   stands = record {
     moment = b.stands.moment;
@@ -273,7 +274,7 @@ answered-follows ps m S b octets message t below found = record {
     serial = b.stands.serial;
     capacity = b.stands.capacity;
     retention = b.stands.retention;
-    entries = answered-entries ps m S (Message octets) message t b found;
+    entries = answered-entries ps m S (Message octets) message t reply b found;
   };
   outputs = refl;
   config = refl;
@@ -296,7 +297,7 @@ judged-fits config place client packet key (Ok kind) request there e =
 packet-fits : (config : Config) (place : ℕ) (client : Client) (via : Via) (address port : ℕ) (r : Result PacketParts PacketFault) (request : Request) → slice_get config.clients place ≡ Some client → history.packet_verdict place client via address port r ≡ Ok request → VerdictFits config request
 packet-fits config place client via address port (Err fault) request there e = absurd (cc)
 packet-fits config place client via address port (Ok packet) request there e =
-    elim (packet.code == 1) as (λ b. cond b (history.judged place client packet (history.key_of via address port packet) (judgement client packet)) (Err NotYet) ≡ Ok request → VerdictFits config request) [
+    elim (packet.code == 1) as (λ b. cond b (history.judged place client packet (history.key_of via address port packet) (judgement client address packet)) (Err NotYet) ≡ Ok request → VerdictFits config request) [
       | true ↦ (λ h. judged-fits config place client packet _ _ request there h)
       | false ↦ (λ h. absurd (cc))
     ] e
@@ -325,6 +326,7 @@ admitted-follows ps m S b input quiet request fits None e =
       settings = fits.settings;
       client = slice_get_within _ _ _ fits.settings;
       session = b.lasts.session (serial ps) (let few = b.sound.counted in omega arith);
+      realm = b.lasts.realm;
     })
     (refusal-none S.config (rooms S.config ps m) e)
 
@@ -375,14 +377,16 @@ found-fits ps m S hop t b found =
     find-All (TakingFits S.config ps) (history.is_numbered (link ps).number hop) (waiting S.config ps m)
     (AllByRecursion-filter _ _ (live S.config ps m) (AllByRecursion-filter _ _ (takings ps) b.sound.each)) t found
 
+settled-follows : (ps : List Place) (m : ℕ) (S : Ledger) → Before ps m S → (octets : List ℕ) (message : MessageParts) (t : Taking) (reply : Option (List ℕ)) → t.place < length ps → find (history.is_numbered (link ps).number message.header.hop) (waiting S.config ps m) ≡ Some t → Follows ps m S (history.settled m (Message octets) t reply) (machine.replied S message.header.hop (entry_of ps t) reply)
+settled-follows ps m S b octets message t (Some reply) below found = answered-follows ps m S b octets message t reply below found
+settled-follows ps m S b octets message t None below found = not_yet-follows ps m S b (Message octets) refl
+
 matched-follows : (ps : List Place) (m : ℕ) (S : Ledger) → Before ps m S → (octets : List ℕ) (message : MessageParts) (o : Option Taking) → find (history.is_numbered (link ps).number message.header.hop) (waiting S.config ps m) ≡ o → Follows ps m S (history.answered S.config ps m (Message octets) message o) (machine.answered S message (option_map (entry_of ps) o))
 matched-follows ps m S b octets message None found = still-follows ps m S b (Message octets) refl (Dropped Unmatched ∷ []) refl
 matched-follows ps m S b octets message (Some t) found =
     let fits = found-fits ps m S message.header.hop t b found in
-    elim (is_built_answer t.kept message) as (λ c. Follows ps m S (cond c (answered_place S.config ps m (Message octets) message t) (history.not_yet m (Message octets))) (cond c (machine.with_client S message (entry_of ps t) (slice_get S.config.clients t.kept.client)) (machine.not_yet S))) [
-      | true ↦ rw fits.settings (answered-follows ps m S b octets message t fits.placed found)
-      | false ↦ not_yet-follows ps m S b (Message octets) refl
-    ]
+    let o = outcome Nasreq t.settings t.kept message (numbers_of S.config (used ps) (total ps)) in
+    rw (fits.settings, numbers-agree ps m S b.stands) (settled-follows ps m S b octets message t (history.reply_of o) fits.placed found)
 
 heard-follows : (ps : List Place) (m : ℕ) (S : Ledger) → Before ps m S → (octets : List ℕ) (message : MessageParts) (heard : Bool) (o : Option Taking) → find (history.is_numbered (link ps).number message.header.hop) (waiting S.config ps m) ≡ o → Follows ps m S (cond heard (history.answered S.config ps m (Message octets) message o) (history.not_yet m (Message octets))) (machine.messaged_if S message heard (option_map (entry_of ps) o))
 heard-follows ps m S b octets message true o found = matched-follows ps m S b octets message o found

@@ -1,7 +1,9 @@
 -- What holds of each past: the requests that were taken up stand in their order, each with a number of its own.
-use Rattle.std.proofs.Common.{◌≡◌, ◌≢◌, ℕ, ◌+◌, ◌<◌, ◌≤◌, Bool, true, false, cond, ◌||◌, not, List, [], ◌∷◌, ◌++◌, length, Option, Some, None, refl, arith}
+use Rattle.std.proofs.Common.{◌≡◌, ◌≢◌, ℕ, ◌+◌, ◌<◌, ◌≤◌, Bool, true, false, cond, ◌||◌, not, List, [], ◌∷◌, ◌++◌, length, Option, Some, None, refl, sym, ap, arith}
 use Rattle.std.specs.List.{AllByRecursion}
 use Rattle.std.specs.Prelude.{slice_get, nat_lt, ◌==◌}
+use Rattle.radius_packet.specs.Packet.{attributes_text}
+use Rattle.radius_packet.proofs.Reading.{attributes_in-text}
 use Rattle.radius_packet.specs.declared.reasons.Reason.TheVariants.{LinkDown, Spent, Full, Backlog}
 use Rattle.std.proofs.lemmas.List.{length-append}
 use Rattle.session_carrier.specs.Session.{fresh_session}
@@ -108,6 +110,7 @@ pub record RequestFits (config : Config) (ps : List Place) (request : Request) :
   pub settings : slice_get config.clients request.client ≡ Some request.settings
   pub client : request.client < length config.clients
   pub session : length (fresh_session config.host (boot config) (serial ps)) ≤ 244
+  pub realm : length config.home_realm ≤ 255
 
 -- a place that takes a request up
 abbrev pub taking_place : Config → List Place → ℕ → Input → Request → Place
@@ -130,7 +133,13 @@ TakingFits-new config ps m input request fits = record {
       ];
   moment = omega arith;
   settings = fits.settings;
-  kept = record { client = fits.client; session = fits.session };
+  kept = record {
+    client = fits.client;
+    session = fits.session;
+    realm = fits.realm;
+    proxy = sym (ap attributes_text (attributes_in-text []));
+    few = omega arith;
+  };
 }
 
 pub IsSound-taking : (config : Config) (ps : List Place) (m : ℕ) (input : Input) (request : Request) → now ps ≤ m → RequestFits config ps request → Admits config (rooms config ps m) → IsSound config ps → IsSound config (taking_place config ps m input request ∷ ps)

@@ -1,25 +1,30 @@
 -- The rule: what goes out for an input, by the whole history before it. Nothing here has a table, an index,
 -- an expiry or a counter: the history is searched at each place.
-use Rattle.std.specs.Prelude.{ℕ, ◌+◌, ◌*◌, ◌%◌, Bool, true, false, ◌==◌, nat_lt, ◌&&◌, ◌||◌, not, max, List, [], ◌∷◌, ◌++◌, length, filter, find, count_by, Option, Some, None, unwrap_or, Result, Ok, Err, if◌then◌else◌}
-use Rattle.radius_packet.specs.Packet.{PacketParts, packet_text, read_packet}
+use Rattle.std.specs.Prelude.{ℕ, ◌+◌, ◌*◌, ◌%◌, Bool, true, false, ◌==◌, nat_eq, nat_lt, ◌&&◌, ◌||◌, not, max, List, [], ◌∷◌, ◌++◌, length, filter, find, count_by, Option, Some, None, unwrap_or, Result, Ok, Err, if◌then◌else◌}
+use Rattle.std.specs.List.{list_any}
+use Rattle.radius_packet.specs.Packet.{AttributeParts, PacketParts, packet_text, read_packet}
 use Rattle.radius_packet.specs.declared.reasons.Via.{Via}
 use Rattle.radius_packet.specs.declared.reasons.Via.TheVariants.{Auth, Acct}
 use Rattle.radius_packet.specs.declared.reasons.Reason.{Reason}
 use Rattle.radius_packet.specs.declared.reasons.Reason.TheVariants.{UnknownClient, Waiting, Silent, LinkDown, Spent, Full, Backlog, Unmatched, NotYet}
 use Rattle.radius_packet.specs.declared.fault.PacketFault.{PacketFault}
 use Rattle.diameter_message.specs.declared.fault.MessageFault.{MessageFault}
+use Rattle.diameter_message.specs.declared.header.Header.{Header}
 use Rattle.diameter_message.specs.Message.{MessageParts, read_message}
 use Rattle.session_carrier.specs.Session.{fresh_session}
 use Rattle.session_carrier.specs.Route.{RouteParts}
 use Rattle.session_carrier.specs.declared.kept.Kind2.{Kind2}
+use Rattle.session_carrier.specs.declared.kept.Kind2.TheVariants.{Access, Eap, Start, Interim, Stop}
 use Rattle.session_carrier.specs.declared.kept.Kept.{Kept}
 use Rattle.session_carrier.specs.declared.kept.Numbers.{Numbers}
 use Rattle.session_carrier.specs.declared.kept.Outcome.{Outcome}
 use Rattle.agent_config.specs.declared.config.Config.{Config}
 use Rattle.agent_config.specs.declared.client.Client.{Client}
 use Rattle.agent_config.specs.Config.{find_address}
-use Rattle.access_map.specs.Requests.{judgement, access_image}
-use Rattle.access_map.specs.Answers.{is_answer, is_built_answer, outcome}
+use Rattle.access_map.specs.Verdict as access
+use Rattle.access_map.specs.Requests.{access_image}
+use Rattle.translation.specs.Answers.{outcome}
+use Rattle.translation.specs.declared.service.Service.TheVariants.{Nasreq}
 use Rattle.pending_table.specs.declared.Key.{Key}
 use Rattle.pending_table.specs.Table.{same_key}
 use Rattle.peer_machine.specs.declared.Phase.{Phase}
@@ -47,6 +52,26 @@ pub record Request : Type 0 where
 abbrev pub key_of : Via → ℕ → ℕ → PacketParts → Key
 key_of via address port packet = record { via = via; address = address; port = port; octets = packet_text packet }
 
+-- The first form of requests: Access-Requests without EAP, whose attributes name neither a session nor a realm, and
+-- without Proxy-State.
+
+abbrev pub is_unbuilt : AttributeParts → Bool
+is_unbuilt a = a.code == 24 || a.code == 33 || (a.code == 1 && list_any (nat_eq 64) a.value)
+
+abbrev pub in_form : PacketParts → Kind2 → Result Kind2 Reason
+in_form packet Access = if list_any is_unbuilt packet.attributes then Err NotYet else Ok Access
+in_form packet Eap = Err NotYet
+in_form packet Start = Err NotYet
+in_form packet Interim = Err NotYet
+in_form packet Stop = Err NotYet
+
+abbrev pub in_form_if : PacketParts → Result Kind2 Reason → Result Kind2 Reason
+in_form_if packet (Err reason) = Err reason
+in_form_if packet (Ok kind) = in_form packet kind
+
+abbrev pub judgement : Client → ℕ → PacketParts → Result Kind2 Reason
+judgement client address packet = in_form_if packet (access.verdict client address packet)
+
 abbrev pub judged : ℕ → Client → PacketParts → Key → Result Kind2 Reason → Result Request Reason
 judged place client packet key (Err reason) = Err reason
 judged place client packet key (Ok kind) = Ok (record { client = place; settings = client; kind = kind; packet = packet; key = key })
@@ -55,7 +80,7 @@ abbrev pub packet_verdict : ℕ → Client → Via → ℕ → ℕ → Result Pa
 packet_verdict place client via address port (Err fault) = Err NotYet
 packet_verdict place client via address port (Ok packet) =
     if packet.code == 1
-    then judged place client packet (key_of via address port packet) (judgement client packet)
+    then judged place client packet (key_of via address port packet) (judgement client address packet)
     else Err NotYet
 
 abbrev pub client_verdict : Via → ℕ → ℕ → List ℕ → Option (ℕ × Client) → Result Request Reason
@@ -295,26 +320,29 @@ abbrev pub reply_output : Key → Option (List ℕ) → List Output
 reply_output key None = []
 reply_output key (Some octets) = Reply key.via key.address key.port octets ∷ []
 
-abbrev pub follow_output : Option (List ℕ) → List Output
-follow_output None = []
-follow_output (Some octets) = Send octets ∷ []
+-- the reply of an outcome without a further request, which isn't sent in this form
+abbrev pub lone_reply : Option (List ℕ) → Option (List ℕ) → Option (List ℕ)
+lone_reply reply None = reply
+lone_reply reply (Some follow) = None
 
-abbrev pub outcome_outputs : Key → Outcome → List Output
-outcome_outputs key o = reply_output key o.reply ++ follow_output o.follow
+abbrev pub reply_of : Outcome → Option (List ℕ)
+reply_of o = lone_reply o.reply o.follow
+
+-- an answer settles its request by this reply
+abbrev pub settled : ℕ → Input → Taking → Option (List ℕ) → Place
+settled m input t (Some reply) =
+    record { moment = m; input = input; taken = None; matched = Some t; outputs = reply_output t.key (Some reply) }
+settled m input t None = not_yet m input
 
 -- an answer, by the waiting request that it matches
 abbrev pub answered : Config → List Place → ℕ → Input → MessageParts → Option Taking → Place
 answered config ps m input message None = still m input (Dropped Unmatched ∷ [])
 answered config ps m input message (Some t) =
-    if is_built_answer t.kept message
-    then record {
-      moment = m;
-      input = input;
-      taken = None;
-      matched = Some t;
-      outputs = outcome_outputs t.key (outcome t.settings t.kept message);
-    }
-    else not_yet m input
+    settled m input t (reply_of (outcome Nasreq t.settings t.kept message (numbers_of config (used ps) (total ps))))
+
+-- an answer to an AA-Request: flag R is clear and the command is 265 (RFC 6733, section 3)
+abbrev pub is_answer : Header → Bool
+is_answer h = nat_lt h.flags 128 && h.command == 265
 
 -- [Matched]: the waiting request of this link and this Hop-by-Hop Identifier
 abbrev pub is_numbered : ℕ → ℕ → Taking → Bool

@@ -6,7 +6,8 @@ use Rattle.radius_packet.specs.declared.reasons.Reason.TheVariants.{Unmatched, N
 use Rattle.diameter_message.specs.declared.fault.MessageFault.{MessageFault}
 use Rattle.diameter_message.specs.Message.{MessageParts, read_message}
 use Rattle.agent_config.specs.declared.client.Client.{Client}
-use Rattle.access_map.specs.Answers.{is_answer, is_built_answer, outcome}
+use Rattle.translation.specs.Answers.{outcome}
+use Rattle.translation.specs.declared.service.Service.TheVariants.{Nasreq}
 use Rattle.session_carrier.specs.declared.kept.Kept.{Kept}
 use Rattle.pending_table.specs.declared.Key.{Key}
 use Rattle.pending_table.specs.declared.Entry.{Entry}
@@ -19,7 +20,7 @@ use Rattle.agent_core.specs.declared.events.Input.TheVariants.{Datagram, Up, Rea
 use Rattle.agent_core.specs.declared.events.Output.{Output}
 use Rattle.agent_core.specs.declared.events.Output.TheVariants.{Reply, Send, Dropped}
 use Rattle.agent_core.specs.declared.ledger.Ledger.{Ledger}
-use Rattle.agent_core.specs.History.{Request, Rooms, verdict, refusal, is_serving, kept_of, request_sent, outcome_outputs, begins}
+use Rattle.agent_core.specs.History.{Request, Rooms, verdict, refusal, is_answer, is_serving, kept_of, numbers_of, request_sent, reply_of, reply_output, begins}
 
 -- what a step leaves, and what goes out
 pub record Next : Type 0 where
@@ -92,18 +93,19 @@ abbrev pub settled : Ledger → ℕ → Option (List ℕ) → Ledger
 settled S hop reply =
     record S { table = record S.table { entries = table.settled S.table S.link hop S.moment reply } }
 
+abbrev pub replied : Ledger → ℕ → Entry → Option (List ℕ) → Next
+replied S hop e (Some reply) = says (settled S hop (Some reply)) (reply_output e.key (Some reply))
+replied S hop e None = not_yet S
+
 -- the client of an entry is there: its place is one of the settings'
 abbrev pub with_client : Ledger → MessageParts → Entry → Option Client → Next
 with_client S message e None = not_yet S
 with_client S message e (Some client) =
-    says (settled S message.header.hop (outcome client e.kept message).reply) (outcome_outputs e.key (outcome client e.kept message))
+    replied S message.header.hop e (reply_of (outcome Nasreq client e.kept message (numbers_of S.config S.used S.total)))
 
 abbrev pub answered : Ledger → MessageParts → Option Entry → Next
 answered S message None = says S (Dropped Unmatched ∷ [])
-answered S message (Some e) =
-    if is_built_answer e.kept message
-    then with_client S message e (slice_get S.config.clients e.kept.client)
-    else not_yet S
+answered S message (Some e) = with_client S message e (slice_get S.config.clients e.kept.client)
 
 abbrev pub messaged_if : Ledger → MessageParts → Bool → Option Entry → Next
 messaged_if S message heard found = if heard then answered S message found else not_yet S

@@ -1,6 +1,7 @@
 -- When what is kept stands for a history.
 use Rattle.std.specs.Prelude.{◌≡◌, ℕ, ◌%◌, ◌<◌, ◌≤◌, List, [], ◌∷◌, map, length, Option, Some, None}
 use Rattle.std.specs.List.{AllByRecursion}
+use Rattle.radius_packet.specs.Packet.{attributes_in, attributes_text}
 use Rattle.agent_config.specs.declared.config.Config.{Config}
 use Rattle.agent_config.specs.Config.{InLimits}
 use Rattle.peer_machine.specs.declared.Phase.TheVariants.{Closed}
@@ -50,10 +51,14 @@ pub record StandsAt (ps : List Place) (m : ℕ) (S : Ledger) : Type 0 where
 abbrev pub StandsFor : Ledger → List Event → Type 0
 StandsFor S history = StandsAt (past S.config history) (now (past S.config history)) S
 
--- what a map wants of what is kept of a request: its client is one of the settings', and its session fits into a Class
+-- what a map wants of what is kept of a request: its client is one of the settings', its session fits into a Class,
+-- its realm is a name, and its Proxy-States are whole attributes that leave room in a reply
 pub record KeptFits (config : Config) (kept : Kept) : Type 0 where
   pub client : kept.client < length config.clients
   pub session : length kept.session ≤ 244
+  pub realm : length kept.realm ≤ 255
+  pub proxy : kept.proxy ≡ attributes_text (attributes_in kept.proxy)
+  pub few : length kept.proxy ≤ 2048
 
 -- what a table and a map want of an entry that lives
 pub record EntryFits (S : Ledger) (e : Entry) : Type 0 where

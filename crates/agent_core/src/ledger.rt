@@ -6,8 +6,7 @@ ghost use Rattle.diameter_message.specs.Message.{read_message};
 ghost use Rattle.diameter_message.specs.View.{message_view};
 ghost use Rattle.session_carrier.specs.Session.{fresh_session};
 ghost use Rattle.agent_config.specs.Config.{InLimits, ClientInLimits};
-ghost use Rattle.access_map.specs.Requests.{judgement};
-ghost use Rattle.access_map.specs.Answers as answers;
+ghost use Rattle.access_map.specs.Verdict as access;
 ghost use Rattle.pending_table.specs.declared.Key.{Key};
 ghost use Rattle.agent_core.specs.History as history;
 ghost use Rattle.agent_core.specs.Machine as machine;
@@ -117,9 +116,19 @@ fn repeated(alloc: Global, key: &Key, found: Found<'_>) -> Result<Option<Outputs
     Ok(Some(outputs))
 }
 
+/// The reply of an outcome without a further request, which isn't sent in this form.
+fn lone_reply(outcome: Outcome) -> Option<Octets>
+    ensures { result ≡ history.reply_of outcome }
+{
+    match outcome.follow {
+        Some(_) => None,
+        None => outcome.reply,
+    }
+}
+
 /// An answer to an AA-Request (RFC 6733, section 3).
 fn is_answer(header: &Header) -> bool
-    ensures { result ≡ answers.is_answer header.now }
+    ensures { result ≡ history.is_answer header.now }
 {
     header.flags < 0x80 && header.command == 265
 }
@@ -187,7 +196,7 @@ impl Ledger {
     ) -> Result<Octets, NoMemory>
         requires limits { InLimits self.now.config }
         requires client { ClientInLimits request.now.settings.now }
-        requires judged { judgement request.now.settings.now request.now.packet ≡ Ok Kind2.Access }
+        requires judged { access.IsJudged request.now.settings.now request.now.packet Kind2.Access }
         requires fits { length session.now ≤ 244 }
         requires fresh { session.now ≡ fresh_session self.now.config.host (history.boot self.now.config) self.now.serial }
         ensures { (key : Key) → IfOk result (λ sent. sent
@@ -211,7 +220,7 @@ impl Ledger {
     fn prepare(&self, alloc: Global, request: &Request<'_>) -> Result<(Kept, Octets), NoMemory>
         requires limits { InLimits self.now.config }
         requires client { ClientInLimits request.now.settings.now }
-        requires judged { judgement request.now.settings.now request.now.packet ≡ Ok Kind2.Access }
+        requires judged { access.IsJudged request.now.settings.now request.now.packet Kind2.Access }
         ensures kept { (key : Key) → IfOk result (λ p. p.0
             ≡ history.kept_of self.now.config (request_with key request.now) self.now.serial) }
         ensures sent { (key : Key) → IfOk result (λ p. p.1
@@ -248,7 +257,7 @@ impl Ledger {
     ) -> Result<Considered, NoMemory>
         requires steady { IsSteady self.now }
         requires client { ClientInLimits request.now.settings.now }
-        requires judged { judgement request.now.settings.now request.now.packet ≡ Ok Kind2.Access }
+        requires judged { access.IsJudged request.now.settings.now request.now.packet Kind2.Access }
         requires unknown { table.find_key self.now.table key self.now.moment ≡ None }
         ensures { IfOk result (Considers self.now (Ok (request_with key request.now))) }
     {
@@ -340,19 +349,14 @@ impl Ledger {
         entry: &Entry,
         message: &Message<'_>,
     ) -> Result<Heard, NoMemory>
-        requires { KeptFits self.now.config entry.now.kept }
+        requires limits { InLimits self.now.config }
+        requires kept { KeptFits self.now.config entry.now.kept }
         ensures { IfOk result (λ h. Answers self.now entry.now (message_view message.now) h) }
     {
-        if !access_map::is_built_answer(&entry.kept, message) {
-            return Ok(Heard::Says(dropped(alloc, Reason::NotYet)?));
-        }
+        agent_config::clients_are_in_limits();
         let client = self.config.clients.at(entry.kept.client as usize);
-        // In this form each answer has a reply, and nothing follows.
-        let Outcome {
-            reply,
-            follow: _follow,
-        } = access_map::answer(alloc, client, &entry.kept, message, self.numbers())?;
-        let Some(reply) = reply else {
+        let outcome = access_map::answer(alloc, client, &entry.kept, message, self.numbers())?;
+        let Some(reply) = lone_reply(outcome) else {
             return Ok(Heard::Says(dropped(alloc, Reason::NotYet)?));
         };
         // What goes out has room for the longest packet. The copy that is kept has its own size.

@@ -3,5 +3,5 @@ use Rattle.std.proofs.Common.{sym}
 use Rattle.agent_core.proofs.Steady.{found-kept}
 use Rattle.agent_core.proofs.ledger.Ledger.matched.Goals as goal
 
-pub answered-requires : goal.answered-requires
-answered-requires c = found-kept c.args.self.now _ _ c.requires (sym c.in-Some.ensures)
+pub answered-requires-clause-kept : goal.answered-requires-clause-kept
+answered-requires-clause-kept c = found-kept c.args.self.now _ _ c.requires (sym c.in-Some.ensures)

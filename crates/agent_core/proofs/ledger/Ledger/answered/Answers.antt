@@ -1,0 +1,7 @@
+-- The client at a place of the settings is in limits.
+use Rattle.std.proofs.Common.{sym}
+use Rattle.agent_core.proofs.ledger.Ledger.answered.Goals as goal
+
+pub answer-requires-clause-client : goal.answer-requires-clause-client
+answer-requires-clause-client c =
+    c.clients_are_in_limits.ensures c.args.self.now.config _ c.at-client.result.now c.requires.limits (sym c.at-client.ensures)

@@ -1,0 +1,24 @@
+-- What was put is the list of the request.
+use Rattle.std.proofs.Common.{ap, ◌∙◌, arith}
+use Rattle.session_carrier.specs.Route.{route_view}
+use Rattle.diameter_avp.specs.Avps.{avps_text}
+use Rattle.diameter_message.specs.Message.{message_text}
+use Rattle.diameter_message.specs.Writer.{MessageWriterParts, with_avps}
+use Rattle.diameter_message.proofs.RoomLemmas.{list_length-begun}
+use Rattle.translation.specs.Heads.{auth_head}
+use Rattle.eap_map.specs.Requests.{pieces, eap_image}
+use Rattle.eap_map.proofs.requests.request.Goals as goal
+
+pub put_auth_head-requires-clause-empty : goal.put_auth_head-requires-clause-empty
+put_auth_head-requires-clause-empty c = omega (arith, list_length-begun _ _ c.in_ok-writer.ensures)
+
+pub put_pieces-requires-clause-few : goal.put_pieces-requires-clause-few
+put_pieces-requires-clause-few c = omega (arith, list_length-begun _ _ c.in_ok-writer.ensures, c.in_ok-put_auth_head.ensures.length)
+
+pub returns : goal.returns
+unfolding eap_image
+returns c =
+    let begun = c.in_ok-writer.ensures in
+    let headed = c.in_ok-put_auth_head.ensures.list ∙ ap (λ w. with_avps w (auth_head 5 c.args.client.now c.args.packet.now (route_view c.args.route.now))) begun in
+    let whole = c.in_ok-put_pieces.ensures ∙ ap (λ w. with_avps w (pieces c.args.packet.now)) headed in
+    c.finish.ensures.text ∙ ap (λ (w : MessageWriterParts). message_text w.header (avps_text w.avps.list)) whole

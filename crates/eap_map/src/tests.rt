@@ -1,0 +1,214 @@
+ghost use Rattle.std.specs.Prelude.{◌≡◌, ◌≤◌, length, IfOk, IfSome};
+ghost use Rattle.radius_packet.specs.Packet.{attributes_in, attributes_text};
+ghost use Rattle.session_carrier.specs.Route.{route_view};
+
+use super::*;
+use crate::vectors::{ANSWERS, NAMED, REQUESTS};
+use agent_config::{AddressList, Client, is_client_in_limits};
+use diameter_message::parse;
+use radius_packet::Packet;
+use session_carrier::{Kept, Kind2, Numbers, Outcome, Route};
+use std::alloc::Global;
+use std::process::Abort;
+use std::test::Fail;
+use translation::{Direction, are_good, proxy_states};
+use wire_core::{NoMemory, Octets, is_identity, is_session_text};
+
+const ADDRESS: u32 = 0xc0a8_0110;
+
+const NUMBERS: Numbers = Numbers {
+    hop: 0,
+    end: 0x0070_0000,
+};
+
+/// What stands before the next bar, and the rest.
+fn cut(case: &str) -> (&str, &str) {
+    case.split_once('|').unwrap_or((case, ""))
+}
+
+/// The hex digits of a word, which may be a name.
+fn digits(word: &str) -> &str {
+    for line in NAMED.lines() {
+        let (name, octets) = line.split_once(' ').unwrap_or((line, ""));
+        if name == word {
+            return octets;
+        }
+    }
+    word
+}
+
+/// The octets of words.
+fn octets(alloc: Global, words: &str) -> Result<Vec<u8>, Fail> {
+    let mut octets = Vec::new(alloc);
+    for word in words.split(' ') {
+        let (word, count) = word.split_once('*').unwrap_or((word, "1"));
+        let piece = hex::decode(alloc, digits(word))?;
+        for _ in 0..count.parse::<u32>()? {
+            octets.extend_from_slice(&piece)?;
+        }
+    }
+    Ok(octets)
+}
+
+/// The octets of words behind two octets and the length of all.
+fn framed(alloc: Global, front: [u8; 2], words: &str) -> Result<Vec<u8>, Fail> {
+    let rest = octets(alloc, words)?;
+    let length = u16::try_from(rest.len().saturating_add(4))?;
+    let mut framed = Vec::from_slice(alloc, &front)?;
+    framed.extend_from_slice(&length.to_be_bytes())?;
+    framed.extend_from_slice(&rest)?;
+    Ok(framed)
+}
+
+/// An Access-Request.
+fn packet(alloc: Global, words: &str) -> Result<Vec<u8>, Fail> {
+    framed(alloc, [1, 5], words)
+}
+
+/// The Proxy-States of a packet, joined.
+fn proxies(alloc: Global, words: &str) -> Result<Octets, Fail>
+    ensures { IfOk result (λ o. o ≡ attributes_text (attributes_in o)) }
+{
+    let octets = packet(alloc, words)?;
+    let packet = Packet::parse(&octets)?;
+    Ok(proxy_states(alloc, &packet)?)
+}
+
+/// A message of Diameter.
+fn message(alloc: Global, words: &str) -> Result<Vec<u8>, Fail> {
+    framed(alloc, [1, 0], words)
+}
+
+fn client(alloc: Global, setting: &str) -> Result<Client, NoMemory> {
+    Ok(Client {
+        name: Octets::copy(alloc, b"nas1")?,
+        address: ADDRESS,
+        secret: Octets::copy(alloc, b"xyzzy5461")?,
+        origin_host: Octets::copy(alloc, b"nas1.example")?,
+        origin_realm: Octets::copy(alloc, b"example")?,
+        require_seal: true,
+        omit_keys: setting == "omit",
+        nas: AddressList::from_vec(Vec::from_slice(alloc, &[0x0a00_0009])?),
+    })
+}
+
+fn route(setting: &str) -> (Route<'_>, Numbers)
+    ensures session { length (route_view result.0).session ≤ 244 }
+    ensures realm { length (route_view result.0).realm ≤ 255 }
+    ensures host { IfSome (route_view result.0).host (λ host. length host ≤ 255) }
+{
+    if setting == "far" {
+        let route = Route {
+            session: b"a/b;1",
+            realm: b"r",
+            host: Some(b"h"),
+        };
+        let numbers = Numbers {
+            hop: 0xffff_fffe,
+            end: 0xffff_ffff,
+        };
+        (route, numbers)
+    } else {
+        let route = Route {
+            session: b"agent.example;7;0",
+            realm: b"example",
+            host: None,
+        };
+        (route, NUMBERS)
+    }
+}
+
+/// What is kept of a request with a session of 17 octets, or of 244.
+fn kept(alloc: Global, setting: &str, proxy: &str) -> Result<Kept, Fail>
+    ensures { IfOk result (λ k. k.proxy ≡ attributes_text (attributes_in k.proxy)) }
+{
+    let session = if setting == "long" {
+        "61*244"
+    } else {
+        "own-session"
+    };
+    Ok(Kept {
+        kind: Kind2::Eap,
+        client: 0,
+        id: 5,
+        authenticator: [0, 1, 2, 3, 4, 5, 6, 7, 8, 9, 10, 11, 12, 13, 14, 15],
+        proxy: proxies(alloc, proxy)?,
+        session: Octets::from_vec(octets(alloc, session)?),
+        realm: Octets::copy(alloc, b"example")?,
+        cause: 0,
+    })
+}
+
+/// The octets, where there are some.
+fn shown(octets: &Option<Octets>) -> &[u8] {
+    match octets {
+        Some(octets) => octets.as_slice(),
+        None => b"",
+    }
+}
+
+/// The request of a packet that is translated.
+fn requested(
+    rt: &impl Abort,
+    alloc: Global,
+    client: &Client,
+    octets: &[u8],
+    setting: &str,
+) -> Result<Octets, Fail> {
+    let packet = Packet::parse(octets)?;
+    assert!(rt; are_good(Direction::Access, &packet));
+    assert!(rt; is_client_in_limits(client));
+    let (route, numbers) = route(setting);
+    Ok(request(alloc, client, &packet, &route, numbers)?)
+}
+
+#[test]
+fn requests(rt: HostRuntime) -> Result<(), Fail> {
+    let client = client(rt.alloc(), "plain")?;
+    for case in REQUESTS.lines() {
+        let (name, rest) = cut(case);
+        let (setting, rest) = cut(rest);
+        let (given, wanted) = cut(rest);
+        let given = packet(rt.alloc(), given)?;
+        let written = requested(&rt, rt.alloc(), &client, &given, setting)?;
+        let wanted = message(rt.alloc(), wanted)?;
+        assert_eq!(rt; written.as_slice(), wanted.as_slice(), "{name}");
+    }
+    Ok(())
+}
+
+/// What an answer causes.
+fn answered(
+    rt: &impl Abort,
+    alloc: Global,
+    client: &Client,
+    kept: &Kept,
+    octets: &[u8],
+) -> Result<Outcome, Fail>
+    requires { kept.now.proxy ≡ attributes_text (attributes_in kept.now.proxy) }
+{
+    let message = parse(octets)?;
+    assert!(rt; is_client_in_limits(client));
+    assert!(rt; kept.session.len() <= 244 && kept.realm.len() <= 255 && kept.proxy.len() <= 2048);
+    Ok(answer(alloc, client, kept, &message, NUMBERS)?)
+}
+
+#[test]
+fn answers(rt: HostRuntime) -> Result<(), Fail> {
+    for case in ANSWERS.lines() {
+        let (name, rest) = cut(case);
+        let (setting, rest) = cut(rest);
+        let (proxy, rest) = cut(rest);
+        let (given, rest) = cut(rest);
+        let (reply, follow) = cut(rest);
+        let client = client(rt.alloc(), setting)?;
+        let kept = kept(rt.alloc(), setting, proxy)?;
+        let given = message(rt.alloc(), given)?;
+        let outcome = answered(&rt, rt.alloc(), &client, &kept, &given)?;
+        let reply = octets(rt.alloc(), reply)?;
+        assert_eq!(rt; shown(&outcome.reply), reply.as_slice(), "{name}");
+        let follow = octets(rt.alloc(), follow)?;
+        assert_eq!(rt; shown(&outcome.follow), follow.as_slice(), "{name}");
+    }
+    Ok(())
+}

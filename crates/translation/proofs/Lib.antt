@@ -1,0 +1,14 @@
+pub mod AvpLists
+pub mod Classes
+pub mod ClientLimits
+pub mod FaultLemmas
+pub mod JudgingLemmas
+pub mod Pieces
+pub mod PlaceLemmas
+pub mod ProxyLemmas
+pub mod PushingLemmas
+pub mod ReplyImages
+pub mod RoomLemmas
+pub mod SeenLemmas
+pub mod SizeLemmas
+pub mod TagLemmas

@@ -1,0 +1,19 @@
+-- The loop comes to the fault or to the whole list.
+use Rattle.std.proofs.Common.{◌≡◌, ◌||◌, ◌∙◌, sym, None, Some, false, refl, rules}
+use Rattle.std.proofs.Math.Bool.{or-false}
+use Rattle.std.specs.List.{list_any}
+use Rattle.diameter_avp.specs.Avps.{avps_fault, readable_avps}
+use Rattle.diameter_avp.proofs.CallerLemmas.{read_avps-none, read_avps-some}
+use Rattle.translation.specs.Reading.{is_key_avp}
+use Rattle.translation.proofs.answer_reading.is_key_among.Goals as goal
+
+pub returns-in_default : goal.returns-in_default
+returns-in_default c =
+    let some : avps_fault c.args.octets.now ≡ Some c.in_default.field-0 = search rules in
+    rw (read_avps-some c.args.octets.now c.in_default.field-0 some) refl
+
+pub returns : goal.returns
+returns c =
+    let none : avps_fault c.args.octets.now ≡ None = search rules in
+    let found : (c.loop-item.found || false) ≡ list_any is_key_avp (readable_avps c.args.octets.now) = search rules in
+    rw (read_avps-none c.args.octets.now none) (sym (or-false c.loop-item.found) ∙ found)

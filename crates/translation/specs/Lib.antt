@@ -1,0 +1,17 @@
+pub mod Acceptance
+pub mod Answers
+pub mod Attempts
+pub mod AvpList
+pub mod Direction
+pub mod Faults
+pub mod Heads
+pub mod Images
+pub mod Judging
+pub mod Names
+pub mod Passing
+pub mod Pushing
+pub mod Reading
+pub mod Replies
+pub mod Routes
+pub mod Termination
+pub mod Values

@@ -1,0 +1,41 @@
+//! What the maps of requests and answers have in common (RFC 4005, section 9).
+#![tactic(auto)]
+
+mod acceptance;
+mod access_answers;
+mod answer_list;
+mod answer_reading;
+mod class;
+mod codes;
+mod direction;
+mod groups;
+mod heads;
+mod images;
+mod judging;
+mod names;
+mod proxies;
+mod pushing;
+mod replies;
+mod routes;
+mod seen;
+mod service;
+mod terminations;
+mod values;
+
+pub use acceptance::is_accepted;
+pub use access_answers::answer;
+pub use direction::{Direction, goes};
+pub use heads::{is_eap, put_auth_head};
+pub use images::put_common;
+pub use judging::Faults;
+pub use names::put_names;
+pub use proxies::proxy_states;
+pub use replies::bare_reply;
+pub use routes::{carried_class, carried_state, name_realm};
+pub use seen::Seen;
+pub use service::Service;
+pub use terminations::termination;
+pub use values::are_good;
+
+#[cfg(test)]
+mod tests;
