@@ -4,6 +4,7 @@ ghost use Rattle.std.specs.Prelude.{◌≡◌, ◌≤◌, ◌++◌, length, fals
 ghost use Rattle.std.specs.List.{list_any};
 ghost use Rattle.radius_packet.specs.Views.{attribute_view};
 ghost use Rattle.diameter_avp.specs.Avps.{avps_text};
+ghost use Rattle.diameter_message.specs.Message.{IsMessage};
 ghost use Rattle.diameter_message.specs.Writer.{list_length, with_avps};
 ghost use Rattle.session_carrier.specs.Route.{route_view};
 ghost use Rattle.session_carrier.specs.declared.kept.Kind2.TheVariants as kind;
@@ -11,7 +12,7 @@ ghost use Rattle.agent_config.specs.Config.{ClientInLimits};
 ghost use Rattle.translation.specs.declared.direction.Direction.TheVariants.{Access};
 ghost use Rattle.translation.specs.Values.{is_good, first_bad};
 ghost use Rattle.access_map.specs.Passing as passing;
-ghost use Rattle.access_map.specs.Requests.{access_image, pieces};
+ghost use Rattle.access_map.specs.Requests.{access_image, pieces, request_avps, request_header};
 ghost use Rattle.access_map.specs.Verdict.{is_bad_password, IsJudged};
 
 use crate::codes::{CHAP_PASSWORD, USER_PASSWORD};
@@ -93,7 +94,9 @@ pub fn request(
     requires realm { length (route_view route.now).realm ≤ 255 }
     requires host { IfSome (route_view route.now).host (λ host. length host ≤ 255) }
     requires client { ClientInLimits client.now }
-    ensures { IfOk result (λ o. o ≡ access_image client.now packet.now (route_view route.now) numbers) }
+    ensures text { IfOk result (λ o. o ≡ access_image client.now packet.now (route_view route.now) numbers) }
+    // It is a message, so it can be sent again.
+    ensures message { IfOk result (λ o. IsMessage o (request_header numbers) (avps_text (request_avps client.now packet.now (route_view route.now)))) }
 {
     let header = Header {
         flags: REQUEST | PROXIABLE,

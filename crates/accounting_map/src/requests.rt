@@ -4,6 +4,7 @@ ghost use Rattle.std.specs.Prelude.{◌≡◌, ◌≤◌, ◌++◌, [], ◌∷�
 ghost use Rattle.wire_core.specs.Numbers.{u32 as text32, u64 as text64};
 ghost use Rattle.radius_packet.specs.Views.{attribute_view};
 ghost use Rattle.diameter_avp.specs.Avps.{avps_text};
+ghost use Rattle.diameter_message.specs.Message.{IsMessage};
 ghost use Rattle.diameter_message.specs.PlainAvps.{plain_avp};
 ghost use Rattle.diameter_message.specs.Writer.{list_length, with_avps, Puts};
 ghost use Rattle.session_carrier.specs.Route.{route_view};
@@ -212,7 +213,9 @@ pub fn request(
     requires session { length (route_view route.now).session ≤ 1024 }
     requires realm { length (route_view route.now).realm ≤ 255 }
     requires client { ClientInLimits client.now }
-    ensures { IfOk result (λ o. o ≡ specs.accounting_image client.now packet.now (route_view route.now) numbers) }
+    ensures text { IfOk result (λ o. o ≡ specs.accounting_image client.now packet.now (route_view route.now) numbers) }
+    // It is a message, so it can be sent again.
+    ensures message { IfOk result (λ o. IsMessage o (specs.request_header numbers) (avps_text (specs.request_avps client.now packet.now (route_view route.now)))) }
 {
     let header = Header {
         flags: REQUEST | PROXIABLE,

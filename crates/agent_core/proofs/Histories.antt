@@ -1,51 +1,44 @@
 -- From one step to whole histories.
 use Rattle.std.proofs.Common.{◌≡◌, ℕ, ◌≤◌, List, [], ◌∷◌, ◌++◌, max, refl, sym, ◌∙◌, ap, subst, arith}
-use Rattle.std.specs.List.{AllByRecursion}
 use Rattle.agent_config.specs.declared.config.Config.{Config}
 use Rattle.agent_config.specs.Config.{FoundStandsAtPlace}
-use Rattle.pending_table.specs.Table as table
 use Rattle.agent_core.specs.declared.ledger.Ledger.{Ledger}
-use Rattle.agent_core.specs.History.{Event, Place, now, place, places, past, live, takings}
-use Rattle.agent_core.specs.Machine.{Next, next, act, tidied}
-use Rattle.agent_core.specs.Standing.{StandsAt, StandsFor, entry_of, EntryFits, start}
-use Rattle.agent_core.proofs.Lists.{filter-within, AllByRecursion-filter, AllByRecursion-map, AllByRecursion-weaken}
-use Rattle.agent_core.proofs.Soundness.{IsSound, IsSound-nil, TakingFits}
-use Rattle.agent_core.proofs.Simulation.{Lasts, Follows, StandsAt-later, input-follows, live-agrees}
-
--- dropping dead entries changes nothing that a history is compared with
-tidied-follows : (ps : List Place) (m : ℕ) (S : Ledger) (p : Place) (n : Next) → Follows ps m S p n → Follows ps m S p (tidied n)
-tidied-follows ps m S p n f =
-    let stands = f.stands in
-    let lives = table.is_live n.ledger.table.retention m in
-    record {
-      sound = f.sound;
-      stands = record {
-        moment = stands.moment;
-        phase = stands.phase;
-        link = stands.link;
-        used = stands.used;
-        outbox = stands.outbox;
-        total = stands.total;
-        serial = stands.serial;
-        capacity = stands.capacity;
-        retention = stands.retention;
-        entries = rw stands.moment (filter-within lives lives (λ x h. h) n.ledger.table.entries ∙ stands.entries);
-      };
-      outputs = f.outputs;
-      config = f.config;
-      moment = f.moment;
-    }
+use Rattle.agent_core.specs.Places.{Event, Place, now}
+use Rattle.agent_core.specs.History.{place, places, past, at_input}
+use Rattle.agent_core.specs.Machine.{next, on_input}
+use Rattle.agent_core.specs.Standing.{StandsAt, StandsFor, IsRoomy, start}
+use Rattle.agent_core.proofs.Agreeing.{StandsAt-later}
+use Rattle.agent_core.proofs.NextPlaces.{NextFollows, next-by, at_event}
+use Rattle.agent_core.proofs.Roomy.{IsRoomy-later}
+use Rattle.agent_core.proofs.RoomySteps.{IsRoomy-next}
+use Rattle.agent_core.proofs.Sound.{IsSound, IsSound-nil}
+use Rattle.agent_core.proofs.Steps.{Lasts, Reaches}
+use Rattle.agent_core.proofs.InputSteps.{input-reaches}
 
 -- one step, by the place that the rule gives
-pub step-follows : FoundStandsAtPlace → (ps : List Place) (S : Ledger) (e : Event) → Lasts S.config → IsSound S.config ps → StandsAt ps (now ps) S → Follows ps (max (now ps) e.moment) S (place S.config ps e) (next S e.moment e.input)
-step-follows law ps S e lasts sound stands =
+pub record Steps (ps : List Place) (S : Ledger) (e : Event) : Type 0 where
+  pub follows : NextFollows ps S e
+  pub sound : IsSound S.config (place S.config ps e ∷ ps)
+
+pub step-on : FoundStandsAtPlace → (ps : List Place) (S : Ledger) (e : Event) → Lasts S.config → IsSound S.config ps → IsRoomy S → StandsAt ps (now ps) S → Steps ps S e
+step-on law ps S e lasts sound roomy stands =
     let m = max (now ps) e.moment in
     let later : now ps ≤ m = omega arith in
-    let moved : Ledger = record S { moment = m } in
-    let f = input-follows law ps m moved (record { stands = StandsAt-later ps S (now ps) m later stands; sound = sound; later = later; lasts = lasts }) e.input in
-    subst (λ (k : ℕ). Follows ps m S (place S.config ps e) (tidied (act (record S { moment = k }) e.input)))
-    (ap (λ k. max k e.moment) (sym stands.moment))
-    (tidied-follows ps m S (place S.config ps e) (act moved e.input) (record { sound = f.sound; stands = f.stands; outputs = f.outputs; config = f.config; moment = f.moment }))
+    let T = at_event ps S e in
+    let moment : S.moment ≤ m = (let h = stands.moment in omega arith) in
+    let r : Reaches ps m T (at_input T.config ps m e.input) (on_input T e.input) =
+    input-reaches law ps m T (record {
+      stands = StandsAt-later ps S (now ps) m later stands;
+      sound = sound;
+      roomy = IsRoomy-later S m moment roomy;
+      later = later;
+      lasts = lasts;
+    }) e.input
+    in
+    record {
+      follows = next-by ps S T e (ap (λ (n : ℕ). record S { moment = max n e.moment }) (sym stands.moment)) r.follows;
+      sound = r.sound;
+    }
 
 -- the places of a history with one more event
 pub places-append : (config : Config) (ps : List Place) (es : List Event) (e : Event) → places config ps (es ++ e ∷ []) ≡ place config (places config ps es) e ∷ places config ps es
@@ -55,15 +48,22 @@ places-append config ps (x ∷ es) e = places-append config (place config ps x �
 pub start-stands : (config : Config) → StandsFor (start config) []
 start-stands config = record {
   moment = refl;
-  phase = refl;
-  link = refl;
+  peer = refl;
   used = refl;
   outbox = refl;
   total = refl;
   serial = refl;
   capacity = refl;
+  patience = refl;
   retention = refl;
   entries = refl;
+}
+
+pub start-roomy : (config : Config) → IsRoomy (start config)
+start-roomy config = record {
+  rooms = record { outbox = omega arith; again = omega arith; used = omega arith };
+  greeting = tt;
+  early = tt;
 }
 
 -- a ledger with these settings that stands for a past, which is sound
@@ -72,57 +72,40 @@ pub record Standing (config : Config) (ps : List Place) : Type 0 where
   pub same : ledger.config ≡ config
   pub stands : StandsAt ps (now ps) ledger
   pub sound : IsSound config ps
+  pub roomy : IsRoomy ledger
 
--- what follows stands at its own moment
-settle-moment : (ps : List Place) (m : ℕ) (S : Ledger) (p : Place) (n : Next) → Follows ps m S p n → StandsAt (p ∷ ps) (now (p ∷ ps)) n.ledger
-settle-moment ps m S p n f = subst (λ (k : ℕ). StandsAt (p ∷ ps) k n.ledger) (sym f.moment) f.stands
-
-step-on : FoundStandsAtPlace → (config : Config) → Lasts config → (ps : List Place) (e : Event) → Standing config ps → Standing config (place config ps e ∷ ps)
-step-on law config lasts ps e s =
+pub standing-step : FoundStandsAtPlace → (config : Config) → Lasts config → (ps : List Place) (e : Event) → Standing config ps → Standing config (place config ps e ∷ ps)
+standing-step law config lasts ps e s =
     let back : config ≡ s.ledger.config = sym s.same in
-    let f = step-follows law ps s.ledger e (subst Lasts back lasts) (subst (λ (c : Config). IsSound c ps) back s.sound) s.stands in
+    let f = step-on law ps s.ledger e (subst Lasts back lasts) (subst (λ (c : Config). IsSound c ps) back s.sound) s.roomy s.stands in
     let after = (next s.ledger e.moment e.input).ledger in
+    let room = (subst Lasts back lasts).backlog in
     record {
       ledger = after;
-      same = f.config ∙ s.same;
-      stands = subst (λ (c : Config). StandsAt (place c ps e ∷ ps) (now (place c ps e ∷ ps)) after) s.same (settle-moment ps _ s.ledger _ _ f);
+      same = f.follows.config ∙ s.same;
+      stands = subst (λ (c : Config). StandsAt (place c ps e ∷ ps) (now (place c ps e ∷ ps)) after) s.same f.follows.stands;
       sound = subst (λ (c : Config). IsSound c (place c ps e ∷ ps)) s.same f.sound;
+      roomy = IsRoomy-next s.ledger e.moment e.input room s.roomy;
     }
 
 standing-on : FoundStandsAtPlace → (config : Config) → Lasts config → (ps : List Place) (es : List Event) → Standing config ps → Standing config (places config ps es)
 standing-on law config lasts ps [] s = s
-standing-on law config lasts ps (e ∷ es) s = standing-on law config lasts (place config ps e ∷ ps) es (step-on law config lasts ps e s)
+standing-on law config lasts ps (e ∷ es) s = standing-on law config lasts (place config ps e ∷ ps) es (standing-step law config lasts ps e s)
 
--- each past is sound
-pub past-sound : FoundStandsAtPlace → (config : Config) → Lasts config → (history : List Event) → IsSound config (past config history)
-past-sound law config lasts history =
-    (standing-on law config lasts [] history (record { ledger = start config; same = refl; stands = start-stands config; sound = IsSound-nil config })).sound
+-- some ledger stands for each past, which is sound
+pub past-standing : FoundStandsAtPlace → (config : Config) → Lasts config → (history : List Event) → Standing config (past config history)
+past-standing law config lasts history =
+    standing-on law config lasts [] history (record { ledger = start config; same = refl; stands = start-stands config; sound = IsSound-nil config; roomy = start-roomy config })
 
 -- the step after a history, by the place that the rule gives
-pub history-step : FoundStandsAtPlace → (S : Ledger) (history : List Event) (e : Event) → Lasts S.config → StandsFor S history → Follows (past S.config history) (max (now (past S.config history)) e.moment) S (place S.config (past S.config history) e) (next S e.moment e.input)
-history-step law S history e lasts stands =
-    step-follows law (past S.config history) S e lasts (past-sound law S.config lasts history) stands
+pub history-step : FoundStandsAtPlace → (S : Ledger) (history : List Event) (e : Event) → Lasts S.config → IsRoomy S → StandsFor S history → Steps (past S.config history) S e
+history-step law S history e lasts roomy stands =
+    step-on law (past S.config history) S e lasts (past-standing law S.config lasts history).sound roomy stands
 
 -- what is kept then stands for the history with one more event
-pub history-follows : FoundStandsAtPlace → (S : Ledger) (history : List Event) (e : Event) → Lasts S.config → StandsFor S history → StandsFor (next S e.moment e.input).ledger (history ++ e ∷ [])
-history-follows law S history e lasts stands =
-    let f = history-step law S history e lasts stands in
+pub history-follows : FoundStandsAtPlace → (S : Ledger) (history : List Event) (e : Event) → Lasts S.config → IsRoomy S → StandsFor S history → StandsFor (next S e.moment e.input).ledger (history ++ e ∷ [])
+history-follows law S history e lasts roomy stands =
+    let f = (history-step law S history e lasts roomy stands).follows in
     let after = (next S e.moment e.input).ledger in
     subst (λ (c : Config). StandsAt (past c (history ++ e ∷ [])) (now (past c (history ++ e ∷ []))) after) (sym f.config)
-    (subst (λ (ps : List Place). StandsAt ps (now ps) after) (sym (places-append S.config [] history e)) (settle-moment _ _ S _ _ f))
-
--- the entries that live fit, whatever the moment
-pub history-fits : FoundStandsAtPlace → (S : Ledger) (history : List Event) → Lasts S.config → StandsFor S history → AllByRecursion (EntryFits S) (table.live S.table S.moment)
-history-fits law S history lasts stands =
-    let ps = past S.config history in
-    let sound = past-sound law S.config lasts history in
-    rw (live-agrees ps (now ps) S stands) (
-    AllByRecursion-map (EntryFits S) (entry_of ps) (live S.config ps (now ps)) (
-    AllByRecursion-weaken (TakingFits S.config ps) _ (λ t f. record {
-      linked = let h = f.linked in let e = stands.link in omega arith;
-      numbered = λ same. let e = stands.link in let u = stands.used in let h = f.numbered (same ∙ stands.link) in omega arith;
-      moment = let h = f.moment in let e = stands.moment in omega arith;
-      kept = f.kept;
-    }) (live S.config ps (now ps)) (AllByRecursion-filter _ _ (takings ps) sound.each)
-    )
-    )
+    (subst (λ (ps : List Place). StandsAt ps (now ps) after) (sym (places-append S.config [] history e)) f.stands)

@@ -4,7 +4,7 @@ use Rattle.std.proofs.lemmas.Bool.{and_parts, eqb-true}
 use Rattle.std.specs.Cmp.Lexicographic.{bytes_decides}
 use Rattle.radius_packet.specs.declared.reasons.Via.{Via}
 use Rattle.radius_packet.specs.declared.reasons.Via.TheVariants.{Auth, Acct}
-use Rattle.pending_table.specs.declared.Key.{Key}
+use Rattle.pending_table.specs.declared.key.Key.{Key}
 use Rattle.pending_table.specs.Table.{same_via, same_key}
 
 same_via-equal : (v w : Via) → same_via v w ≡ true → v ≡ w

@@ -10,6 +10,7 @@ pub record Limits (config : Config) : Type 0 where
   pub host : length config.host ≤ 64
   pub home_realm : length config.home_realm ≤ 64
   pub backlog : config.backlog ≤ 65536
+  pub patience : 0 < config.patience
   pub retention : 0 < config.retention
 
 is_name-short : (xs : List ℕ) → is_name xs ≡ true → length xs ≤ 64
@@ -22,5 +23,6 @@ limits config within =
       host = is_name-short _ facts.host;
       home_realm = is_name-short _ facts.home_realm;
       backlog = facts.backlog_high;
+      patience = omega (arith, facts.patience_low);
       retention = omega (arith, facts.retention_low);
     }

@@ -82,6 +82,20 @@ find-filter {X} p q (x ∷ xs) =
       | false ↦ find-filter p q xs
     ]
 
+-- two tests, one behind the other
+pub filter-both : {X : Type 0} (p q : X → Bool) (xs : List X) → filter (λ x. p x && q x) xs ≡ filter q (filter p xs)
+filter-both p q [] = refl
+filter-both {X} p q (x ∷ xs) =
+    elim (p x) as (λ b. cond (b && q x) (x ∷ filter (λ y. p y && q y) xs) (filter (λ y. p y && q y) xs) ≡ filter q (cond b (x ∷ filter p xs) (filter p xs))) [
+      | true ↦ ap (λ r. cond (q x) (x ∷ r) r) (filter-both p q xs)
+      | false ↦ filter-both p q xs
+    ]
+
+-- two tests that agree on each element
+pub filter-alike : {X : Type 0} (p q : X → Bool) (xs : List X) → AllByRecursion (λ x. p x ≡ q x) xs → filter p xs ≡ filter q xs
+filter-alike p q [] all = refl
+filter-alike p q (x ∷ xs) all = let here = all.0 in let rest = filter-alike p q xs all.1 in cc
+
 -- two tests that agree
 pub find-same : {X : Type 0} (p q : X → Bool) → ((x : X) → p x ≡ q x) → (xs : List X) → find p xs ≡ find q xs
 find-same p q same [] = refl

@@ -1,164 +1,123 @@
--- What holds of each past: the requests that were taken up stand in their order, each with a number of its own.
-use Rattle.std.proofs.Common.{◌≡◌, ◌≢◌, ℕ, ◌+◌, ◌<◌, ◌≤◌, Bool, true, false, cond, ◌||◌, not, List, [], ◌∷◌, ◌++◌, length, Option, Some, None, refl, sym, ap, arith}
-use Rattle.std.specs.List.{AllByRecursion}
-use Rattle.std.specs.Prelude.{slice_get, nat_lt, ◌==◌}
-use Rattle.radius_packet.specs.Packet.{attributes_text}
-use Rattle.radius_packet.proofs.Reading.{attributes_in-text}
-use Rattle.radius_packet.specs.declared.reasons.Reason.TheVariants.{LinkDown, Spent, Full, Backlog}
-use Rattle.std.proofs.lemmas.List.{length-append}
-use Rattle.session_carrier.specs.Session.{fresh_session}
-use Rattle.agent_core.specs.declared.events.Output.TheVariants.{Send}
-use Rattle.std.proofs.lemmas.Bool.{not-false, ltb-false, eqb-false, ne_eqb}
+-- What holds of each request that was taken up, in every past: the number of its last Send, and what it sent.
+use Rattle.std.proofs.Common.{◌≡◌, ℕ, ◌+◌, ◌<◌, ◌≤◌, ◌⊎◌, Bool, true, false, cond, List, [], ◌∷◌, length, Option, Some, None, refl, sym, ◌∙◌, ap, arith}
+use Rattle.std.specs.Prelude.{slice_get, ◌==◌}
+use Rattle.std.specs.Option.{option_or, option_map_or}
+use Rattle.std.proofs.lemmas.Bool.{ne_eqb, eq-eqb}
+use Rattle.diameter_message.specs.Message.{IsHeader}
 use Rattle.agent_config.specs.declared.config.Config.{Config}
-use Rattle.agent_core.specs.declared.events.Input.{Input}
-use Rattle.agent_core.specs.declared.events.Output.{Output}
-use Rattle.peer_machine.specs.declared.Phase.TheVariants.{Serving}
-use Rattle.agent_core.specs.History.{Place, Taking, LinkState, now, takings, answer_to, is_at, link, link_after, begins, begins_at, used, total, serial, sends, taking_of, request_sent, boot, Request, Rooms, refusal, rooms, is_serving}
-use Rattle.agent_core.specs.Standing.{Ascending, KeptFits}
-use Rattle.agent_core.proofs.Lists.{AllByRecursion-push, AllByRecursion-weaken}
+use Rattle.agent_core.specs.Places.{Place, Taking, now, link, begins, is_at, hop_at, rank, number, sends, used, is_application_request, header_of}
+use Rattle.peer_machine.specs.Reading.{is_application_command}
+use Rattle.agent_core.specs.Standing.{last_sent}
+use Rattle.agent_core.proofs.Orders.{Ascending}
+
+-- these octets begin with a header
+pub record IsHeaded (octets : List ℕ) : Type 0 where
+  pub header : IsHeader (header_of octets)
+
+-- a message of an application that isn't sent again
+pub record SentFits (octets : List ℕ) : Type 0 where
+  pub whole : IsHeaded octets
+  pub flags : (header_of octets).flags ≡ 192
+  pub application : is_application_command (header_of octets).command ≡ true
 
 -- what holds of a request that was taken up in a past
 pub record TakingFits (config : Config) (ps : List Place) (t : Taking) : Type 0 where
   pub placed : t.place < length ps
-  pub linked : t.link ≤ (link ps).number
-  pub numbered : t.link ≡ (link ps).number → t.hop < used ps
+  pub linked : (last_sent ps t).0 ≤ (link ps).number
+  pub within : (last_sent ps t).0 ≡ (link ps).number → (last_sent ps t).1 < used ps
+  pub numbered : number ps t ≡ cond ((last_sent ps t).0 == (link ps).number) (Some (last_sent ps t).1) None
   pub moment : t.moment ≤ now ps
   pub settings : slice_get config.clients t.kept.client ≡ Some t.settings
-  pub kept : KeptFits config t.kept
+  pub sent : SentFits t.sent
 
-pub record IsSound (config : Config) (ps : List Place) : Type 0 where
-  pub each : AllByRecursion (TakingFits config ps) (takings ps)
-  pub ascending : Ascending (takings ps)
-  pub counted : serial ps ≤ 18446744073709551615
-  pub open_ahead : (n : ℕ) → length ps ≤ n → answer_to n ps ≡ None
+-- what is sent again is sent over a link that has sent nothing yet
+abbrev pub IsUnused : List Place → Place → Type 0
+IsUnused ps p = (p.resent ≡ []) ⊎ ((begins ps p.input ≡ true) ⊎ (used ps ≡ 0))
 
-Ascending-push : (ts : List Taking) (t : Taking) → AllByRecursion (λ u. u.place < t.place) ts → Ascending ts → Ascending (ts ++ t ∷ [])
-Ascending-push [] t below up = (tt, tt)
-Ascending-push (u ∷ ts) t below up = (AllByRecursion-push _ ts t up.0 below.0, Ascending-push ts t below.1 up.1)
+-- what a place does to the numbers of the present link
+pub record Goes (ps : List Place) (p : Place) : Type 0 where
+  pub later : now ps ≤ p.moment
+  pub number : p.link.number ≡ cond (begins ps p.input) ((link ps).number + 1) (link ps).number
+  pub resent : length p.resent ≤ sends is_application_request p
+  pub order : Ascending p.resent
+  pub unused : IsUnused ps p
 
--- the numbers only go up
-pub link-grows : (l : LinkState) (input : Input) → l.number ≤ (link_after l input).number
-link-grows l input =
-    elim (begins input l.phase l.number) as (λ b. l.number ≤ (cond b (record { phase = Serving; number = l.number + 1 }) l).number) [
-      | true ↦ omega arith
-      | false ↦ omega arith
-    ]
+rank-within : (place n : ℕ) (ts : List Taking) (k : ℕ) → rank place n ts ≡ Some k → k < n + length ts
+rank-within place n [] k e = absurd (cc)
+rank-within place n (t ∷ ts) k e =
+    elim (t.place == place) as (λ b. cond b (Some n) (rank place (n + 1) ts) ≡ Some k → k < n + length (t ∷ ts)) [
+      | true ↦ (λ f. let same : n ≡ k = cc in omega arith)
+      | false ↦ (λ f. let h = rank-within place (n + 1) ts k f in omega arith)
+    ] e
+
+-- the last Send by what this place sends, and the number
+abbrev pub last-by : Place → ℕ × ℕ → Option ℕ → ℕ × ℕ
+last-by p before o = option_map_or (λ hop. (p.link.number, hop)) o before
+
+record Numbered (last : ℕ × ℕ) (now_number : Option ℕ) (link used : ℕ) : Type 0 where
+  pub linked : last.0 ≤ link
+  pub within : last.0 ≡ link → last.1 < used
+  pub numbered : now_number ≡ cond (last.0 == link) (Some last.1) None
+
+numbered-by : (p : Place) (o : Option ℕ) (b : Bool) (last : ℕ × ℕ) (before : Option ℕ) (link used sent : ℕ) → Numbered last before link used → p.link.number ≡ cond b (link + 1) link → ((k : ℕ) → o ≡ Some k → k < sent) → Numbered (last-by p last o) (option_or o (cond b None before)) p.link.number (cond b sent (used + sent))
+numbered-by p (Some k) true last before link used sent was is few = record {
+  linked = omega arith;
+  within = λ _. few k refl;
+  numbered = rw (eq-eqb p.link.number p.link.number refl) refl;
+}
+numbered-by p (Some k) false last before link used sent was is few = record {
+  linked = omega arith;
+  within = λ _. let h = few k refl in omega arith;
+  numbered = rw (eq-eqb p.link.number p.link.number refl) refl;
+}
+numbered-by p None true last before link used sent was is few = record {
+  linked = let h = was.linked in omega arith;
+  within = λ same. absurd (let h = was.linked in omega arith);
+  numbered = rw (ne_eqb last.0 p.link.number (λ (e : last.0 ≡ p.link.number). let h = was.linked in omega arith)) refl;
+}
+numbered-by p None false last before link used sent was is few = record {
+  linked = let h = was.linked in omega arith;
+  within = λ same. let h = was.within (same ∙ is) in omega arith;
+  numbered = was.numbered ∙ ap (λ n. cond (last.0 == n) (Some last.1) None) (sym is);
+}
+
+or-none : (o : Option ℕ) → option_or o None ≡ o
+or-none None = refl
+or-none (Some n) = refl
+
+pub hop-elsewhere : (t : Taking) (p : Place) → is_at t.place p.taken ≡ false → hop_at t p ≡ rank t.place 0 p.resent
+hop-elsewhere t p apart = ap (λ b. option_or (rank t.place 0 p.resent) (cond b (Some t.hop) None)) apart ∙ or-none (rank t.place 0 p.resent)
 
 -- what fits goes on to fit
-TakingFits-on : (config : Config) (ps : List Place) (p : Place) (t : Taking) → now ps ≤ p.moment → TakingFits config ps t → TakingFits config (p ∷ ps) t
-TakingFits-on config ps p t later fits = record {
-  placed = let h = fits.placed in omega arith;
-  linked = let h = fits.linked in let g = link-grows (link ps) p.input in omega arith;
-  numbered =
-      elim (begins_at ps p.input) as (λ b. t.link ≡ (cond b (record { phase = Serving; number = (link ps).number + 1 }) (link ps)).number → t.hop < cond b (sends p) (used ps + sends p)) [
-        | true ↦ (λ e. absurd (let h = fits.linked in omega arith))
-        | false ↦ (λ e. let h : t.hop < used ps = fits.numbered e in omega arith)
-      ];
-  moment = let h = fits.moment in omega arith;
-  settings = fits.settings;
-  kept = fits.kept;
-}
-
--- where an earlier request was matched, none ahead is
-pub not-ahead : (ps : List Place) (t : Taking) (n : ℕ) → t.place < length ps → length ps ≤ n → is_at n (Some t) ≡ false
-not-ahead ps t n below ahead = ne_eqb _ _ (λ (e : t.place ≡ n). omega arith)
-
--- a place that takes nothing up
-pub IsSound-still : (config : Config) (ps : List Place) (m : ℕ) (input : Input) (matched : Option Taking) (outputs : List Output) → now ps ≤ m → ((n : ℕ) → length ps ≤ n → is_at n matched ≡ false) → IsSound config ps → IsSound config (record { moment = m; input = input; taken = None; matched = matched; outputs = outputs } ∷ ps)
-IsSound-still config ps m input matched outputs later behind sound = record {
-  each = AllByRecursion-weaken _ _ (λ t fits. TakingFits-on config ps (record { moment = m; input = input; taken = None; matched = matched; outputs = outputs }) t later fits) (takings ps) sound.each;
-  ascending = sound.ascending;
-  counted = sound.counted;
-  open_ahead = λ n ahead.
-      let here : is_at n matched ≡ false = behind n (omega arith) in
-      rw here (sound.open_ahead n (omega arith));
-}
-
--- what a refusal that isn't there says
-pub record Admits (config : Config) (r : Rooms) : Type 0 where
-  pub serving : is_serving r.phase ≡ true
-  pub used : r.used + r.waiting + 2 ≤ 2147483648
-  pub serial : r.serial ≢ 18446744073709551615
-  pub live : r.live ≢ config.capacity
-  pub backlog : r.outbox + r.waiting + 2 ≤ config.backlog
-
-none-of : {X : Type 0} (b : Bool) (x : X) (o : Option X) → cond b (Some x) o ≡ None → (b ≡ false) × (o ≡ None)
-none-of true x o e = absurd (cc)
-none-of false x o e = (refl, e)
-
-or-false : (a b : Bool) → (a || b) ≡ false → (a ≡ false) × (b ≡ false)
-or-false true b e = absurd (cc)
-or-false false b e = (refl, e)
-
-pub refusal-none : (config : Config) (r : Rooms) → refusal config r ≡ None → Admits config r
-refusal-none config r e =
-    let down = none-of (not (is_serving r.phase)) LinkDown _ e in
-    let spent = none-of (nat_lt 2147483648 (r.used + r.waiting + 2) || r.serial == 18446744073709551615) Spent _ down.1 in
-    let full = none-of (r.live == config.capacity) Full _ spent.1 in
-    let crowded = none-of (nat_lt config.backlog (r.outbox + r.waiting + 2)) Backlog None full.1 in
-    let both = or-false _ _ spent.0 in
+pub TakingFits-on : (config : Config) (ps : List Place) (p : Place) (t : Taking) → Goes ps p → is_at t.place p.taken ≡ false → TakingFits config ps t → TakingFits config (p ∷ ps) t
+TakingFits-on config ps p t goes apart fits =
+    let hop = hop-elsewhere t p apart in
+    let few : (k : ℕ) → hop_at t p ≡ Some k → k < sends is_application_request p =
+    (λ k e. let h = rank-within t.place 0 p.resent k (sym hop ∙ e) in let g = goes.resent in omega arith)
+    in
+    let n = numbered-by p (hop_at t p) (begins ps p.input) (last_sent ps t) (number ps t) (link ps).number (used ps) (sends is_application_request p) (record { linked = fits.linked; within = fits.within; numbered = fits.numbered }) goes.number few in
     record {
-      serving = not-false _ down.0;
-      used = ltb-false _ _ both.0;
-      serial = eqb-false _ _ both.1;
-      live = eqb-false _ _ full.0;
-      backlog = ltb-false _ _ crowded.0;
+      placed = let h = fits.placed in omega arith;
+      linked = n.linked;
+      within = n.within;
+      numbered = n.numbered;
+      moment = let h = fits.moment in let g = goes.later in omega arith;
+      settings = fits.settings;
+      sent = fits.sent;
     }
 
--- what is known of a request whose datagram is authentic, and of its session
-pub record RequestFits (config : Config) (ps : List Place) (request : Request) : Type 0 where
-  pub settings : slice_get config.clients request.client ≡ Some request.settings
-  pub client : request.client < length config.clients
-  pub session : length (fresh_session config.host (boot config) (serial ps)) ≤ 244
-  pub realm : length config.home_realm ≤ 255
-
--- a place that takes a request up
-abbrev pub taking_place : Config → List Place → ℕ → Input → Request → Place
-taking_place config ps m input request = record {
-  moment = m;
-  input = input;
-  taken = Some (taking_of config ps m request);
-  matched = None;
-  outputs = Send (request_sent config request (used ps) (total ps) (serial ps)) ∷ [];
-}
-
-TakingFits-new : (config : Config) (ps : List Place) (m : ℕ) (input : Input) (request : Request) → RequestFits config ps request → TakingFits config (taking_place config ps m input request ∷ ps) (taking_of config ps m request)
-TakingFits-new config ps m input request fits = record {
-  placed = omega arith;
-  linked = link-grows (link ps) input;
-  numbered =
-      elim (begins_at ps input) as (λ b. (link ps).number ≡ (cond b (record { phase = Serving; number = (link ps).number + 1 }) (link ps)).number → used ps < cond b 1 (used ps + 1)) [
-        | true ↦ (λ e. absurd (omega arith))
-        | false ↦ (λ e. omega arith)
-      ];
-  moment = omega arith;
-  settings = fits.settings;
-  kept = record {
-    client = fits.client;
-    session = fits.session;
-    realm = fits.realm;
-    proxy = sym (ap attributes_text (attributes_in-text []));
-    few = omega arith;
-  };
-}
-
-pub IsSound-taking : (config : Config) (ps : List Place) (m : ℕ) (input : Input) (request : Request) → now ps ≤ m → RequestFits config ps request → Admits config (rooms config ps m) → IsSound config ps → IsSound config (taking_place config ps m input request ∷ ps)
-IsSound-taking config ps m input request later fits admits sound = record {
-  each =
-      AllByRecursion-push _ (takings ps) (taking_of config ps m request)
-      (AllByRecursion-weaken _ _ (λ t f. TakingFits-on config ps (taking_place config ps m input request) t later f) (takings ps) sound.each)
-      (TakingFits-new config ps m input request fits);
-  ascending =
-      Ascending-push (takings ps) (taking_of config ps m request)
-      (AllByRecursion-weaken _ _ (λ t (f : TakingFits config ps t). f.placed) (takings ps) sound.each) sound.ascending;
-  counted =
-      let more = length-append (takings ps) (taking_of config ps m request ∷ []) in
-      let few : length (takings ps) ≤ 18446744073709551615 = sound.counted in
-      let room : length (takings ps) ≢ 18446744073709551615 = admits.serial in
-      omega arith;
-  open_ahead = λ n ahead. sound.open_ahead n (omega arith);
-}
-
--- nothing was taken up before the history
-pub IsSound-nil : (config : Config) → IsSound config []
-IsSound-nil config = record { each = tt; ascending = tt; counted = omega arith; open_ahead = λ n ahead. refl }
+-- a request that is taken up now: its hop is the next one
+pub TakingFits-new : (config : Config) (ps : List Place) (p : Place) (t : Taking) → is_at t.place p.taken ≡ true → rank t.place 0 p.resent ≡ None → t.place < length (p ∷ ps) → t.moment ≤ p.moment → t.hop < used (p ∷ ps) → slice_get config.clients t.kept.client ≡ Some t.settings → SentFits t.sent → TakingFits config (p ∷ ps) t
+TakingFits-new config ps p t here alone placed by next settings sent =
+    let hop : hop_at t p ≡ Some t.hop = ap (λ o. option_or o (cond (is_at t.place p.taken) (Some t.hop) None)) alone ∙ ap (λ b. cond b (Some t.hop) None) here in
+    let last : last_sent (p ∷ ps) t ≡ (p.link.number, t.hop) = ap (λ o. option_map_or (λ k. (p.link.number, k)) o (last_sent ps t)) hop in
+    let now_number : number (p ∷ ps) t ≡ Some t.hop = ap (λ o. option_or o (cond (begins ps p.input) None (number ps t))) hop in
+    record {
+      placed = placed;
+      linked = rw last (omega arith);
+      within = rw last (λ _. next);
+      numbered = rw (last, now_number, eq-eqb p.link.number p.link.number refl) refl;
+      moment = by;
+      settings = settings;
+      sent = sent;
+    }

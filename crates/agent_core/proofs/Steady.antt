@@ -1,28 +1,68 @@
--- A ledger stays fit for a step while time passes, and what it finds is fit for a map.
-use Rattle.std.proofs.Common.{◌≡◌, ℕ, ◌≤◌, Some, subst, arith}
+-- What a history says of the live entries is what a step wants of them.
+use Rattle.std.proofs.Common.{◌≡◌, ℕ, ◌≤◌, List, [], ◌∷◌, Option, Some, None, refl, ◌∙◌, ap, arith}
 use Rattle.std.specs.List.{AllByRecursion}
-use Rattle.pending_table.specs.declared.Entry.{Entry}
 use Rattle.pending_table.specs.Table as table
+use Rattle.peer_machine.specs.Step.{PeerParts}
 use Rattle.agent_core.specs.declared.ledger.Ledger.{Ledger}
-use Rattle.agent_core.specs.Standing.{IsSteady, EntryFits, KeptFits}
-use Rattle.agent_core.proofs.Lists.{find-All, filter-within, AllByRecursion-filter, AllByRecursion-weaken}
-use Rattle.agent_core.proofs.Simulation.{live-later}
+use Rattle.agent_core.specs.Places.{Event, Place, Taking, now, takings, match_of, reply_in, live}
+use Rattle.agent_core.specs.History.{past}
+use Rattle.agent_core.specs.Standing.{StandsAt, StandsFor, IsSteady, IsRoomy, EntryFits, IsSendable, IsWhole, answer_in, row_of, entry_of}
+use Rattle.agent_core.specs.Promise.{IsReal}
+use Rattle.agent_core.proofs.Lists.{AllByRecursion-filter, AllByRecursion-map}
+use Rattle.agent_core.proofs.Agreeing.{live-agrees}
+use Rattle.agent_core.proofs.Soundness.{TakingFits}
+use Rattle.agent_core.proofs.Sound.{IsSound}
+use Rattle.agent_core.proofs.Steps.{Lasts}
+use Rattle.agent_core.proofs.Histories.{past-standing}
+use Rattle.agent_core.proofs.Kept.{Laws, CoreSettings}
+use Rattle.agent_core.proofs.KeptPlaces.{Keeps, past-kept}
 
-pub found-kept : (S : Ledger) (hop : ℕ) (e : Entry) → IsSteady S → table.find_number S.table S.link hop S.moment ≡ Some e → KeptFits S.config e.kept
-found-kept S hop e steady found =
-    let fits = find-All (EntryFits S) (table.has_number S.link hop) (table.waiting S.table S.moment) (AllByRecursion-filter _ _ (table.live S.table S.moment) steady.entries) e found in
-    fits.kept
+settled-by : (taken at m : ℕ) (reply : Option (List ℕ)) → at ≤ m → table.last_change taken (table.answer_of at reply) ≤ m
+settled-by taken at m None by = by
+settled-by taken at m (Some reply) by = by
 
-pub steady-later : (S : Ledger) (m : ℕ) → S.moment ≤ m → IsSteady S → IsSteady (record S { moment = m })
-steady-later S m later steady =
-    let lives = table.is_live S.table.retention in
-    let kept = AllByRecursion-filter (EntryFits S) (lives m) (table.live S.table S.moment) steady.entries in
-    let same = filter-within (lives S.moment) (lives m) (live-later S.table.retention S.moment m later) S.table.entries in
+-- an entry was taken and settled by the moment by which its request was taken up and matched
+answer-by : (sent : List ℕ) (taken m : ℕ) (o : Option Place) → taken ≤ m → ((p : Place) → o ≡ Some p → p.moment ≤ m) → table.last_change taken (answer_in sent o) ≤ m
+answer-by sent taken m None by matched = by
+answer-by sent taken m (Some p) by matched = settled-by taken p.moment m (reply_in p.outputs) (matched p refl)
+
+settled-sendable : (at : ℕ) (reply : Option (List ℕ)) → IsSendable (table.answer_of at reply)
+settled-sendable at None = tt
+settled-sendable at (Some reply) = tt
+
+answer-sendable : (sent : List ℕ) (o : Option Place) → IsWhole sent → IsSendable (answer_in sent o)
+answer-sendable sent None whole = whole
+answer-sendable sent (Some p) whole = settled-sendable p.moment (reply_in p.outputs)
+
+entry-fits : (ps : List Place) (S : Ledger) → StandsAt ps (now ps) S → IsSound S.config ps → (t : Taking) → TakingFits S.config ps t → Keeps S.config t → EntryFits S (entry_of ps t)
+entry-fits ps S stands sound t fits kept =
+    let number = ap (λ (p : PeerParts). p.link.number) stands.peer in
     record {
-      limits = steady.limits;
-      capacity = steady.capacity;
-      entries =
-          AllByRecursion-weaken (EntryFits S) (EntryFits (record S { moment = m }))
-          (λ e f. record { linked = f.linked; numbered = f.numbered; moment = let h = f.moment in omega arith; kept = f.kept })
-          (table.live S.table m) (subst (AllByRecursion (EntryFits S)) same kept);
+      linked = let h = fits.linked in omega arith;
+      numbered = λ same. let h = fits.within (same ∙ number) in let u = stands.used in omega arith;
+      by = rw stands.moment (answer-by t.sent t.moment (now ps) (match_of t.place ps) fits.moment (sound.matched_by t.place));
+      kept = kept.fits;
+      sendable = answer-sendable t.sent (match_of t.place ps) kept.whole;
+    }
+
+entries-fit : (ps : List Place) (S : Ledger) → StandsAt ps (now ps) S → IsSound S.config ps → (ts : List Taking) → AllByRecursion (TakingFits S.config ps) ts → AllByRecursion (Keeps S.config) ts → AllByRecursion (λ t. EntryFits S (entry_of ps t)) ts
+entries-fit ps S stands sound [] fits kept = tt
+entries-fit ps S stands sound (t ∷ ts) fits kept = (entry-fits ps S stands sound t fits.0 kept.0, entries-fit ps S stands sound ts fits.1 kept.1)
+
+-- all that a step wants
+pub history-steady : Laws → (S : Ledger) (history : List Event) → CoreSettings S.config → Lasts S.config → IsRoomy S → StandsFor S history → AllByRecursion (λ e. IsReal e.input) history → IsSteady S
+history-steady laws S history settings lasts roomy stands real =
+    let ps = past S.config history in
+    let sound = (past-standing laws.found S.config lasts history).sound in
+    let kept = past-kept laws S.config settings lasts history real in
+    record {
+      limits = settings.limits;
+      capacity = stands.capacity;
+      rooms = roomy.rooms;
+      greeting = roomy.greeting;
+      entries = rw (live-agrees ps (now ps) S stands) (
+          AllByRecursion-map (λ r. EntryFits S r.1) (row_of ps) (live S.config ps (now ps)) (
+          AllByRecursion-filter (λ t. EntryFits S (entry_of ps t)) _ (takings ps) (entries-fit ps S stands sound (takings ps) sound.each kept)
+          )
+          );
     }

@@ -1,14 +1,8 @@
 -- Laws of the rule, for every history.
-use Rattle.std.specs.Prelude.{◌≡◌, ◌≤◌, List, [], ◌∷◌, ◌++◌, length}
+use Rattle.std.specs.Prelude.{◌≡◌, List, [], ◌∷◌, ◌++◌}
 use Rattle.agent_config.specs.declared.config.Config.{Config}
-use Rattle.agent_core.specs.History.{Event, Place, place, past}
-
-abbrev pub IsFew : Place → Type 0
-IsFew p = length p.outputs ≤ 2
-
--- an event has at most two outputs
-abbrev pub OutputsAreFew : Type 0
-OutputsAreFew = (config : Config) (ps : List Place) (e : Event) → IsFew (place config ps e)
+use Rattle.agent_core.specs.Places.{Event}
+use Rattle.agent_core.specs.History.{place, past}
 
 -- a history with one more event has one more place
 abbrev pub PastGoesOn : Type 0

@@ -1,10 +1,13 @@
 //! The core: one step of the agent.
 
-ghost use Rattle.std.specs.Prelude.{◌≡◌, ◌++◌, [], ◌∷◌, List, IfOk, OnOk, OnErr, length, max};
+ghost use Rattle.std.specs.Prelude.{◌≡◌, ◌≤◌, ◌++◌, [], ◌∷◌, List, IfOk, OnOk, OnErr, length, max};
 ghost use Rattle.agent_config.specs.Config.{InLimits};
 ghost use Rattle.pending_table.specs.Table as table;
-ghost use Rattle.agent_core.specs.History.{Event, outputs_after};
+ghost use Rattle.agent_core.specs.Places.{Event};
+ghost use Rattle.agent_core.specs.Places as places;
+ghost use Rattle.agent_core.specs.History.{outputs_after, past};
 ghost use Rattle.agent_core.specs.Standing.{StandsFor};
+ghost use Rattle.agent_core.specs.Promise.{AreBytes, IsReal};
 
 use crate::events::{Input, Outputs};
 use crate::ledger::Ledger;
@@ -32,6 +35,20 @@ impl Model for Core {
     ghost invariant = { λ c. IsCore c.ledger };
 }
 
+/// Each of these is an octet.
+fn are_octets(octets: &[u8])
+    ensures { AreBytes octets.now }
+{}
+
+/// A datagram has octets.
+fn has_octets(input: &Input)
+    ensures { IsReal input.now }
+{
+    if let Input::Datagram { octets, .. } = input {
+        are_octets(octets.as_slice());
+    }
+}
+
 impl Core {
     /// A core before anything came in. A boot that isn't set is 0. `random` is for a table that hashes its keys.
     pub fn new(alloc: Global, random: RandomState, config: Config) -> Result<Core, NoMemory>
@@ -39,7 +56,6 @@ impl Core {
         ensures config { IfOk result (λ c. c.config ≡ config) }
         ensures stands { IfOk result (λ c. StandsFor c []) }
     {
-        let _boot = config.boot.unwrap_or(0);
         let ledger = Ledger::new(alloc, random, config)?;
         Ok(Core { ledger })
     }
@@ -51,38 +67,55 @@ impl Core {
             ≡ outputs_after self.old.config H (record { moment = moment; input = input.now })) }
         ensures stands { (H : List Event) → StandsFor self.old H
             → OnOk result (StandsFor self.new (H ++ record { moment = moment; input = input.now } ∷ [])) }
+        // At most half the largest backlog is sent again, and the link says three things.
+        ensures few { IfOk result (λ o. length o ≤ 32771) }
         ensures config { self.new.config ≡ self.old.config }
         ensures err { OnErr result (self.new ≡ self.old) }
     {
         agent_config::found_stands_at_place();
+        agent_config::clients_are_in_limits();
         session_carrier::fresh_sessions_are_short();
+        has_octets(input);
         self.ledger.step(alloc, moment, input)
+    }
+
+    /// The settings.
+    pub fn config(&self) -> &Config
+        ensures { result.now ≡ self.now.config }
+    {
+        &self.ledger.config
     }
 
     /// Where the link to the home server stands.
     pub fn phase(&self) -> Phase
-        ensures { result ≡ self.now.phase }
+        ensures kept { result ≡ self.now.peer.link.phase }
+        ensures rule { (H : List Event) → StandsFor self.now H → result ≡ (places.link (past self.now.config H)).phase }
     {
-        self.ledger.phase
+        self.ledger.peer.phase()
     }
 
     /// What was sent on the link since the last Drain.
     pub fn outbox(&self) -> u32
-        ensures { result ≡ self.now.outbox }
+        ensures kept { result ≡ self.now.outbox }
+        ensures rule { (H : List Event) → StandsFor self.now H → result ≡ places.outbox (past self.now.config H) }
     {
         self.ledger.outbox
     }
 
     /// How many requests live at `moment`, or at the greatest moment so far where that is later.
     pub fn live(&self, moment: u64) -> u32
-        ensures { result ≡ length (table.live self.now.table (max self.now.moment moment)) }
+        ensures kept { result ≡ length (table.live self.now.table (max self.now.moment moment)) }
+        ensures rule { (H : List Event) → StandsFor self.now H → result
+            ≡ length (places.live self.now.config (past self.now.config H) (max (places.now (past self.now.config H)) moment)) }
     {
         self.ledger.table.len(self.ledger.moment.max(moment))
     }
 
     /// How many of those wait for their answer.
     pub fn waiting(&self, moment: u64) -> u32
-        ensures { result ≡ length (table.waiting self.now.table (max self.now.moment moment)) }
+        ensures kept { result ≡ length (table.waiting self.now.table (max self.now.moment moment)) }
+        ensures rule { (H : List Event) → StandsFor self.now H → result
+            ≡ length (places.waiting self.now.config (past self.now.config H) (max (places.now (past self.now.config H)) moment)) }
     {
         self.ledger.table.waiting(self.ledger.moment.max(moment))
     }

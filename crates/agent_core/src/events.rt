@@ -90,6 +90,13 @@ impl Outputs {
         }
     }
 
+    /// These outputs, in their order.
+    pub(crate) fn from_vec(outputs: Vec<Output>) -> Outputs
+        ensures { result ≡ outputs.items }
+    {
+        Outputs { outputs }
+    }
+
     /// Puts an output at the end. An `Err` changes nothing.
     pub(crate) fn push(&mut self, output: Output) -> Result<(), NoMemory>
         ensures ok { OnOk result (self.new ≡ self.old ++ output ∷ []) }

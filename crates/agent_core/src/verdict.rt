@@ -1,16 +1,14 @@
 //! Whether a datagram is a request.
 
-ghost use Rattle.std.specs.Prelude.{◌≡◌, ℕ, IfOk, Ok, Some, slice_get};
+ghost use Rattle.std.specs.Prelude.{◌≡◌, ℕ, IfOk, Ok};
+ghost use Rattle.std.specs.List.{AllByRecursion};
 ghost use Rattle.radius_packet.specs.Packet.{read_packet};
-ghost use Rattle.agent_config.specs.Config.{InLimits, ClientInLimits};
-ghost use Rattle.access_map.specs.Verdict as access;
-ghost use Rattle.agent_core.specs.Verdicts.{request_view};
-ghost use Rattle.agent_core.specs.History.{is_unbuilt as is_unbuilt_in, judgement, verdict as verdict_of, packet_verdict as packet_verdict_of};
-ghost use Rattle.radius_packet.specs.Views.{attribute_view};
-ghost use Rattle.std.specs.List.{list_any};
+ghost use Rattle.agent_config.specs.Config.{InLimits};
+ghost use Rattle.agent_core.specs.Verdict as specs;
+ghost use Rattle.agent_core.specs.Verdicts.{request_view, via_of, IsRequest, IsShort};
 
 use agent_config::{Client, Config};
-use radius_packet::{Attribute, Packet, Reason, Via};
+use radius_packet::{Packet, PacketFault, Reason, Via};
 use session_carrier::Kind2;
 
 /// A datagram that is a request, with its client and the client's place in the settings.
@@ -22,73 +20,80 @@ pub(crate) struct Request<'a> {
     pub(crate) packet: Packet<'a>,
 }
 
-// Attributes (RFC 2865, section 5).
-const USER_NAME: u8 = 1;
+// Codes of packets (RFC 2865, section 3).
+const ACCESS_REQUEST: u8 = 1;
 
-const STATE: u8 = 24;
+const ACCOUNTING_REQUEST: u8 = 4;
 
-const PROXY_STATE: u8 = 33;
-
-/// A State, a Proxy-State, or a User-Name with a realm.
-fn is_unbuilt(attribute: &Attribute<'_>) -> bool
-    ensures { result ≡ is_unbuilt_in (attribute_view attribute.now) }
+/// The code of the requests that arrive there.
+fn code_at(via: Via) -> u8
+    ensures { result ≡ specs.code_at via }
 {
-    attribute.code == STATE
-        || attribute.code == PROXY_STATE
-        || attribute.code == USER_NAME && attribute.value.contains(&b'@')
+    match via {
+        Via::Auth => ACCESS_REQUEST,
+        Via::Acct => ACCOUNTING_REQUEST,
+    }
 }
 
-fn has_unbuilt(packet: &Packet<'_>) -> bool
-    ensures { result ≡ list_any is_unbuilt_in packet.now.attributes }
+/// The kind of a packet of the right code, or the first reason against it.
+fn kind_at(via: Via, client: &Client, address: u32, packet: &Packet<'_>) -> Result<Kind2, Reason>
+    ensures { result ≡ specs.kind_at via client.now address packet.now }
 {
-    packet.attributes().any(|a| is_unbuilt(&a))
+    match via {
+        Via::Auth => access_map::judge(client, address, packet),
+        Via::Acct => accounting_map::judge(client, address, packet),
+    }
 }
 
-/// The kind of an Access-Request of this form, or the first reason against it.
-fn judge(client: &Client, address: u32, packet: &Packet<'_>) -> Result<Kind2, Reason>
-    ensures exact { result ≡ judgement client.now address packet.now }
-    ensures judged { IfOk result (λ _. access.verdict client.now address packet.now ≡ Ok Kind2.Access) }
+/// Why octets that are no packet are dropped. Another code is a reason before an attribute that isn't whole.
+fn fault_reason(via: Via, octets: &[u8], fault: PacketFault) -> Reason
+    ensures { result ≡ specs.fault_reason via octets.now fault }
 {
-    match access_map::judge(client, address, packet)? {
-        Kind2::Access => {
-            if has_unbuilt(packet) {
-                Err(Reason::NotYet)
-            } else {
-                Ok(Kind2::Access)
+    match fault {
+        PacketFault::Short => Reason::Short,
+        PacketFault::BadLength => Reason::BadLength,
+        PacketFault::BadAttribute { place: _ } => match octets {
+            [] => Reason::BadCode,
+            [code, ..] => {
+                if *code == code_at(via) {
+                    Reason::BadAttribute
+                } else {
+                    Reason::BadCode
+                }
             }
-        }
-        Kind2::Eap | Kind2::Start | Kind2::Interim | Kind2::Stop => Err(Reason::NotYet),
+        },
     }
 }
 
 /// The request that the octets of a client are.
 fn packet_verdict<'a>(
+    via: Via,
     client: u32,
     settings: &'a Client,
     address: u32,
     octets: &'a [u8],
 ) -> Result<Request<'a>, Reason>
-    ensures exact { (port : ℕ) → request_view Via.Auth address port result
-        ≡ packet_verdict_of client settings.now Via.Auth address port (read_packet octets.now) }
+    ensures exact { (port : ℕ) → request_view via address port result
+        ≡ specs.packet_verdict via address port octets.now (client, settings.now) (read_packet octets.now) }
     ensures client { IfOk result (λ r. (r.client ≡ client) × (r.settings.now ≡ settings.now)) }
-    ensures judged { IfOk result (λ r. access.verdict r.settings.now address r.packet ≡ Ok Kind2.Access) }
+    ensures judged { IfOk result (λ r. specs.kind_at via settings.now address r.packet ≡ Ok r.kind) }
+    ensures values { IfOk result (λ r. AllByRecursion IsShort r.packet.attributes) }
 {
-    match Packet::parse(octets) {
-        Err(_) => Err(Reason::NotYet),
-        Ok(packet) => {
-            if packet.code() != 1 {
-                return Err(Reason::NotYet);
-            }
-            match judge(settings, address, &packet) {
-                Err(reason) => Err(reason),
-                Ok(kind) => Ok(Request {
-                    client,
-                    settings,
-                    kind,
-                    packet,
-                }),
-            }
-        }
+    let packet = match Packet::parse(octets) {
+        Err(fault) => return Err(fault_reason(via, octets, fault)),
+        Ok(packet) => packet,
+    };
+    if packet.code() != code_at(via) {
+        return Err(Reason::BadCode);
+    }
+    match kind_at(via, settings, address, &packet) {
+        Err(reason) => Err(reason),
+        Ok(kind) => Ok(Request {
+            client,
+            settings,
+            kind,
+            packet,
+        }),
     }
 }
 
@@ -101,18 +106,14 @@ pub(crate) fn verdict<'a>(
 ) -> Result<Request<'a>, Reason>
     requires { InLimits config.now }
     ensures exact { (port : ℕ) → request_view via address port result
-        ≡ verdict_of config.now via address port octets.now }
-    ensures there { IfOk result (λ r. slice_get config.now.clients r.client ≡ Some r.settings.now) }
-    ensures judged { IfOk result (λ r. access.verdict r.settings.now address r.packet ≡ Ok Kind2.Access) }
-    ensures limits { IfOk result (λ r. ClientInLimits r.settings.now) }
+        ≡ specs.verdict config.now via address port octets.now }
+    ensures request { IfOk result (IsRequest config.now) }
+    ensures port { IfOk result (λ r. via ≡ via_of r.kind) }
 {
     agent_config::found_stands_at_place();
     agent_config::clients_are_in_limits();
     match config.clients.by_address(address) {
         None => Err(Reason::UnknownClient),
-        Some((client, settings)) => match via {
-            Via::Acct => Err(Reason::NotYet),
-            Via::Auth => packet_verdict(client, settings, address, octets),
-        },
+        Some((client, settings)) => packet_verdict(via, client, settings, address, octets),
     }
 }

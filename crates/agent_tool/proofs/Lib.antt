@@ -1,3 +1,3 @@
-mod ReplayLaws
-mod RunLaws
-mod Sessions
+pub mod ReplayLemmas
+pub mod SessionLemmas
+pub mod TaskLemmas

@@ -1,15 +1,8 @@
 -- The words of commands (profile).
-use Rattle.std.specs.Prelude.{Bool, false, List, [], ◌∷◌, String, string_bytes, bytes_eq, codes, ⊤}
+use Rattle.std.specs.Prelude.{Bool, false, List, [], ◌∷◌, String, string_bytes, bytes_eq, codes}
 use Rattle.std.specs.declared.alloc.Global.{Global}
-use Rattle.agent_tool.specs.declared.status.Status.{Status}
-use Rattle.agent_tool.specs.declared.status.Status.TheVariants.{Usage}
 
 -- the one word `replay`
 abbrev pub is_replay : List (String Global) → Bool
 is_replay (word ∷ []) = bytes_eq (string_bytes word) (codes "replay")
 is_replay words = false
-
--- a status that a command which was begun ends with
-abbrev pub IsOfRun : Status → Type 0
-IsOfRun Usage = ⊥
-IsOfRun status = ⊤

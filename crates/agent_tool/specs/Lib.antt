@@ -1,5 +1,5 @@
 pub mod Command
-pub mod Promise
 pub mod Replay
 pub mod Session
 pub mod Status
+pub mod Tasks

@@ -1,10 +1,12 @@
 //! The command that the words of the command line name.
 
-ghost use Rattle.std.specs.Prelude.{◌≡◌, ◌<◌, ◌≤◌, ◌⊎◌, ◌↔◌, List, ℕ, Some, false, true, length};
+ghost use Rattle.std.specs.Prelude.{◌≡◌, ◌≤◌, ◌⊎◌, ◌↔◌, List, ℕ, Some, None, false, true, length};
 ghost use Rattle.wire_core.specs.Counts.{Rose};
+ghost use Rattle.transcript.specs.Streams.{most_octets};
+ghost use Rattle.transcript.specs.Words.{lines_of};
 ghost use Rattle.agent_tool.specs.Command.{is_replay as is_replay_words};
-ghost use Rattle.transcript.specs.Text.{text_of};
-ghost use Rattle.agent_tool.specs.Promise.{BreaksOff, FailsWriting, Overruns, RepliesWhole, StopsAt, WritesPart};
+ghost use Rattle.agent_tool.specs.Replay.{replay_task};
+ghost use Rattle.agent_tool.specs.Tasks.{EndsBy, EndsCounts};
 
 use crate::replay::replay;
 use crate::status::Status;
@@ -32,26 +34,12 @@ pub fn agent<S: Source, K: Sink>(
 ) -> Status
     ensures usage { result ≡ Status.Usage ↔ is_replay_words words.now ≡ false }
     ensures unread { result ≡ Status.Usage → (input.new ≡ input.old) × (output.new ≡ output.old) }
-    ensures done { result ≡ Status.Done → (X : List ℕ) → S.left input.old ≡ Some X
-        → RepliesWhole X (S.left input.new) (K.written output.old) (K.written output.new) }
-    ensures ended { result ≡ Status.Done → Rose (S.ends input.old) (S.ends input.new) }
-    ensures bad { (line reason : ℕ) → result ≡ Status.BadTranscript line reason
-        → (X : List ℕ) → S.left input.old ≡ Some X → StopsAt X line (K.written output.old) (K.written output.new) }
-    ensures reason { (line reason : ℕ) → result ≡ Status.BadTranscript line reason → reason ≡ 99 }
-    ensures read { result ≡ Status.ReadFault → Rose (S.faults input.old) (S.faults input.new) }
-    ensures write { result ≡ Status.WriteFault → Rose (K.faults output.old) (K.faults output.new) }
-    ensures broken { result ≡ Status.ReadFault → (X : List ℕ) → S.left input.old ≡ Some X
-        → BreaksOff X (S.left input.new) (K.written output.old) (K.written output.new) }
-    ensures part { result ≡ Status.WriteFault → (X : List ℕ) → S.left input.old ≡ Some X
-        → FailsWriting X (S.left input.new) (K.written output.old) (K.written output.new) }
-    ensures memory { result ≡ Status.OutOfMemory → (X : List ℕ) → S.left input.old ≡ Some X
-        → WritesPart X (S.left input.new) (K.written output.old) (K.written output.new) }
-    ensures long { result ≡ Status.TooLong → (X : List ℕ) → S.left input.old ≡ Some X → 1099511627776 < length X }
-    ensures overrun { result ≡ Status.TooLong → (X : List ℕ) → S.left input.old ≡ Some X
-        → Overruns X (S.left input.new) (K.written output.old) (K.written output.new) }
-    ensures short { result ≡ Status.Done → (X : List ℕ) → S.left input.old ≡ Some X → length X ≤ 1099511627776 }
+    ensures ends { is_replay_words words.now ≡ true → (X : List ℕ) → S.left input.old ≡ Some X
+        → EndsBy replay_task result X (S.left input.new) (K.written output.old) (K.written output.new) }
+    ensures counts { EndsCounts result (S.ends input.old) (S.ends input.new) (S.faults input.old) (S.faults input.new)
+        (K.faults output.old) (K.faults output.new) }
     ensures complete { is_replay_words words.now ≡ true
-        → (X text : List ℕ) → S.left input.old ≡ Some X → text_of X ≡ Some text → length X ≤ 1099511627776
+        → (X : List ℕ) → S.left input.old ≡ Some X → replay_task.stop (lines_of X) ≡ None → length X ≤ most_octets
         → ¬ Rose (S.faults input.old) (S.faults input.new) → ¬ Rose (K.faults output.old) (K.faults output.new)
         → (result ≡ Status.Done) ⊎ (result ≡ Status.OutOfMemory) }
 {

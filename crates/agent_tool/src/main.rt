@@ -6,6 +6,7 @@ mod agent;
 mod replay;
 mod session;
 mod status;
+mod work;
 
 pub use agent::agent;
 pub use replay::replay;
@@ -15,11 +16,13 @@ use std::process::ExitCode;
 use std::{env, io};
 use wire_core::{ReaderSource, WriterSink};
 
-const HELP: &str = "\
+const USAGE: &str = "\
 usage: agent replay < TRANSCRIPT
        agent --help
        agent --version
+";
 
+const HELP: &str = "
 Reads a transcript: a line of settings, lines of clients, and lines of events, each with its moment in
 milliseconds. Prints what the agent sends for each event, after the number of its line, and at last how many
 replies, messages and drops there were.
@@ -45,12 +48,42 @@ fn status_without_words(error: &io::Error) -> Status {
     }
 }
 
+/// What was wanted in place of a bad line.
+fn wanted(line: u64, reason: u32) -> &'static str {
+    match reason {
+        1 => "expected at most 140000 octets",
+        2 => {
+            if line == 1 {
+                "expected an agent line"
+            } else {
+                "expected an event line, or a client line before all events"
+            }
+        }
+        3 => "a word isn't of its kind or not within its limits",
+        _ => "another client has this address",
+    }
+}
+
 /// Says on stderr how a run ended that wasn't done, and gives the status to exit with.
 fn end(rt: &HostRuntime, status: Status) -> ExitCode {
-    if status != Status::Done {
-        let _ = eprintln!(rt; "agent: {status}");
-    }
+    let _ = match status {
+        Status::Done => Ok(()),
+        Status::Usage => eprint!(rt; "agent: {status}\n{USAGE}"),
+        Status::BadTranscript { line, reason } => {
+            let wanted = wanted(line, reason);
+            eprintln!(rt; "agent: {status} ({wanted})")
+        }
+        _ => eprintln!(rt; "agent: {status}"),
+    };
     ExitCode::from(status.number())
+}
+
+/// Prints these texts on stdout.
+fn tell(rt: &HostRuntime, text: &str, more: &str) -> ExitCode {
+    match print!(rt; "{text}{more}") {
+        Ok(()) => ExitCode::SUCCESS,
+        Err(_) => end(rt, Status::WriteFault),
+    }
 }
 
 fn main(rt: HostRuntime) -> ExitCode {
@@ -59,16 +92,10 @@ fn main(rt: HostRuntime) -> ExitCode {
         Err(error) => return end(&rt, status_without_words(&error)),
     };
     if let [word] = words.as_slice() {
-        let text = match word.as_str() {
-            "--help" => HELP,
-            "--version" => "agent 0.1.0\n",
-            _ => "",
-        };
-        if !text.is_empty() {
-            return match print!(&rt; "{text}") {
-                Ok(()) => ExitCode::SUCCESS,
-                Err(_) => end(&rt, Status::WriteFault),
-            };
+        match word.as_str() {
+            "--help" => return tell(&rt, USAGE, HELP),
+            "--version" => return tell(&rt, "agent 0.1.0\n", ""),
+            _ => {}
         }
     }
     let Ok(random) = RandomState::new(&rt) else {

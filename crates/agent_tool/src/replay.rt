@@ -1,23 +1,43 @@
 //! The command `replay`.
 
-ghost use Rattle.std.specs.Prelude.{◌≡◌, ◌<◌, ◌≤◌, ◌⊎◌, List, ℕ, Some, length};
+ghost use Rattle.std.specs.Prelude.{◌≡◌, ◌≢◌, ◌≤◌, ◌⊎◌, [], List, ℕ, Some, None, length, IfOk};
 ghost use Rattle.wire_core.specs.Counts.{Rose};
-ghost use Rattle.transcript.specs.Reading.{start};
-ghost use Rattle.agent_tool.specs.Command.{IsOfRun};
-ghost use Rattle.transcript.specs.Text.{text_of};
-ghost use Rattle.agent_tool.specs.Promise.{BreaksOff, FailsWriting, Overruns, RepliesWhole, StopsAt, WritesPart};
+ghost use Rattle.agent_tool.specs.Replay.{Replays, replay_task};
 ghost use Rattle.agent_tool.specs.Status.{fault_status};
+ghost use Rattle.agent_tool.specs.Tasks.{EndsBy, EndsCounts};
+ghost use Rattle.transcript.specs.Streams.{most_octets};
+ghost use Rattle.transcript.specs.Words.{lines_of};
 
-use crate::session::{Session, finish, follow};
+use crate::session::Session;
 use crate::status::Status;
+use crate::work::{Work, run};
 use std::alloc::Global;
 use std::hash::RandomState;
-use transcript::{LineFault, LineReader, Lines};
-use wire_core::{Sink, Source};
+use transcript::{LineFault, LineReader};
+use wire_core::{NoMemory, Sink, Source};
 
-fn status_of(fault: LineFault) -> Status
-    ensures status { result ≡ fault_status fault }
-    ensures of_run { IsOfRun result }
+/// A replay: a reader of lines, and what they make of the agent.
+#[derive(Drop)]
+pub(crate) struct ReplayWork {
+    reader: LineReader,
+    session: Session,
+}
+
+impl ReplayWork {
+    /// Before the first line. `random` is for a table that hashes its keys.
+    pub(crate) fn new(alloc: Global, random: RandomState) -> Result<ReplayWork, NoMemory>
+        ensures { IfOk result (λ work. Replays work []) }
+    {
+        Ok(ReplayWork {
+            reader: LineReader::new(alloc)?,
+            session: Session::new(random),
+        })
+    }
+}
+
+/// How a replay ends at a line that can't be read.
+fn line_status(fault: LineFault) -> Status
+    ensures { result ≡ fault_status fault }
 {
     match fault {
         LineFault::Read => Status::ReadFault,
@@ -27,91 +47,50 @@ fn status_of(fault: LineFault) -> Status
     }
 }
 
-/// Follows the lines to their end, and prints the end line.
-fn follow_all<S: Source, K: Sink>(
-    alloc: Global,
-    random: RandomState,
-    lines: &mut Lines<'_, S>,
-    output: &mut K,
-) -> Status
-    requires { lines.old.reader ≡ start }
-    ensures of_run { IsOfRun result }
-    ensures same_source { lines.new.source.ghost_name ≡ lines.old.source.ghost_name }
-    ensures done { result ≡ Status.Done → (X : List ℕ) → S.left lines.old.source.now ≡ Some X
-        → RepliesWhole X (S.left lines.new.source.now) (K.written output.old) (K.written output.new) }
-    ensures ended { result ≡ Status.Done → Rose (S.ends lines.old.source.now) (S.ends lines.new.source.now) }
-    ensures bad { (line reason : ℕ) → result ≡ Status.BadTranscript line reason
-        → (X : List ℕ) → S.left lines.old.source.now ≡ Some X → StopsAt X line (K.written output.old) (K.written output.new) }
-    ensures reason { (line reason : ℕ) → result ≡ Status.BadTranscript line reason → reason ≡ 99 }
-    ensures read { result ≡ Status.ReadFault → Rose (S.faults lines.old.source.now) (S.faults lines.new.source.now) }
-    ensures write { result ≡ Status.WriteFault → Rose (K.faults output.old) (K.faults output.new) }
-    ensures broken { result ≡ Status.ReadFault → (X : List ℕ) → S.left lines.old.source.now ≡ Some X
-        → BreaksOff X (S.left lines.new.source.now) (K.written output.old) (K.written output.new) }
-    ensures part { result ≡ Status.WriteFault → (X : List ℕ) → S.left lines.old.source.now ≡ Some X
-        → FailsWriting X (S.left lines.new.source.now) (K.written output.old) (K.written output.new) }
-    ensures memory { result ≡ Status.OutOfMemory → (X : List ℕ) → S.left lines.old.source.now ≡ Some X
-        → WritesPart X (S.left lines.new.source.now) (K.written output.old) (K.written output.new) }
-    ensures long { result ≡ Status.TooLong
-        → (X : List ℕ) → S.left lines.old.source.now ≡ Some X → 1099511627776 < length X }
-    ensures overrun { result ≡ Status.TooLong → (X : List ℕ) → S.left lines.old.source.now ≡ Some X
-        → Overruns X (S.left lines.new.source.now) (K.written output.old) (K.written output.new) }
-    ensures short { result ≡ Status.Done
-        → (X : List ℕ) → S.left lines.old.source.now ≡ Some X → length X ≤ 1099511627776 }
-{
-    transcript::run_prints_text();
-    transcript::run_stops_first();
-    agent_config::client_keeps_limits();
-    let mut session = Session::Start { random };
-    loop {
-        match lines.next_line() {
-            Ok(Some(line)) => match follow(alloc, session, line, output) {
-                Ok(new) => session = new,
-                Err(status) => return status,
-            },
-            Ok(None) => return finish(alloc, &session, output),
-            Err(fault) => return status_of(fault),
+impl Work for ReplayWork {
+    ghost task = { replay_task };
+
+    ghost took = { Replays };
+
+    fn take<K: Sink>(&mut self, alloc: Global, line: &[u8], sink: &mut K) -> Result<(), Status> {
+        transcript::lines_can_follow();
+        match self.reader.take(line) {
+            Ok(line) => self.session.follow(alloc, line, sink),
+            Err(fault) => Err(line_status(fault)),
         }
     }
+
+    fn close<K: Sink>(&mut self, alloc: Global, sink: &mut K) -> Status {
+        self.session.close(alloc, sink)
+    }
+
+    fn too_long(&self) -> Status {
+        line_status(self.reader.too_long())
+    }
+
+    fn is_task() {}
 }
 
 /// Reads a transcript from the input, and prints what the agent sends for each of its events and the end line.
-/// Each line's outputs are written before the next line is read. `random` is for tables that hash their keys.
+/// Each line's outputs are written before the next line is read. `random` is for a table that hashes its keys.
 pub fn replay<S: Source, K: Sink>(
     alloc: Global,
     random: RandomState,
     input: &mut S,
     output: &mut K,
 ) -> Status
-    ensures of_run { IsOfRun result }
-    ensures done { result ≡ Status.Done → (X : List ℕ) → S.left input.old ≡ Some X
-        → RepliesWhole X (S.left input.new) (K.written output.old) (K.written output.new) }
-    ensures ended { result ≡ Status.Done → Rose (S.ends input.old) (S.ends input.new) }
-    ensures bad { (line reason : ℕ) → result ≡ Status.BadTranscript line reason
-        → (X : List ℕ) → S.left input.old ≡ Some X → StopsAt X line (K.written output.old) (K.written output.new) }
-    ensures reason { (line reason : ℕ) → result ≡ Status.BadTranscript line reason → reason ≡ 99 }
-    ensures read { result ≡ Status.ReadFault → Rose (S.faults input.old) (S.faults input.new) }
-    ensures write { result ≡ Status.WriteFault → Rose (K.faults output.old) (K.faults output.new) }
-    ensures broken { result ≡ Status.ReadFault → (X : List ℕ) → S.left input.old ≡ Some X
-        → BreaksOff X (S.left input.new) (K.written output.old) (K.written output.new) }
-    ensures part { result ≡ Status.WriteFault → (X : List ℕ) → S.left input.old ≡ Some X
-        → FailsWriting X (S.left input.new) (K.written output.old) (K.written output.new) }
-    ensures memory { result ≡ Status.OutOfMemory → (X : List ℕ) → S.left input.old ≡ Some X
-        → WritesPart X (S.left input.new) (K.written output.old) (K.written output.new) }
-    ensures long { result ≡ Status.TooLong → (X : List ℕ) → S.left input.old ≡ Some X → 1099511627776 < length X }
-    ensures overrun { result ≡ Status.TooLong → (X : List ℕ) → S.left input.old ≡ Some X
-        → Overruns X (S.left input.new) (K.written output.old) (K.written output.new) }
-    ensures short { result ≡ Status.Done → (X : List ℕ) → S.left input.old ≡ Some X → length X ≤ 1099511627776 }
-    ensures complete { (X text : List ℕ) → S.left input.old ≡ Some X → text_of X ≡ Some text → length X ≤ 1099511627776
+    ensures begun { result ≢ Status.Usage }
+    ensures ends { (X : List ℕ) → S.left input.old ≡ Some X
+        → EndsBy replay_task result X (S.left input.new) (K.written output.old) (K.written output.new) }
+    ensures counts { EndsCounts result (S.ends input.old) (S.ends input.new) (S.faults input.old) (S.faults input.new)
+        (K.faults output.old) (K.faults output.new) }
+    ensures complete { (X : List ℕ) → S.left input.old ≡ Some X → replay_task.stop (lines_of X) ≡ None → length X ≤ most_octets
         → ¬ Rose (S.faults input.old) (S.faults input.new) → ¬ Rose (K.faults output.old) (K.faults output.new)
         → (result ≡ Status.Done) ⊎ (result ≡ Status.OutOfMemory) }
 {
-    transcript::run_prints_text();
     // The memory of the reading is taken first: where it is wanting, the input is as it was.
-    let Ok(reader) = LineReader::new(alloc) else {
+    let Ok(mut work) = ReplayWork::new(alloc, random) else {
         return Status::OutOfMemory;
     };
-    let mut lines = Lines::over(input, reader);
-    let status = follow_all(alloc, random, &mut lines, output);
-    lines.into_source();
-    status
+    run(alloc, &mut work, input, output)
 }

@@ -1,13 +1,17 @@
-//! What a replay knows of the lines so far.
+//! What the lines of a transcript make of the agent.
 
-ghost use Rattle.std.specs.Prelude.{◌≡◌, ◌+◌, ◌≤◌, ℕ, [], count_by, None, Err, IfOk, IfErr, OnOk, length};
+ghost use Rattle.std.specs.Prelude.{◌≡◌, ◌≤◌, ◌++◌, ℕ, List, None, Ok, Err, IfSome, IfErr, OnOk, count_by, length};
 ghost use Rattle.std.specs.List.{flat_map};
 ghost use Rattle.wire_core.specs.Counts.{Rose};
 ghost use Rattle.wire_core.specs.Sink.{Appends, AppendsPrefix};
+ghost use Rattle.agent_config.specs.declared.config.Config.{Config};
+ghost use Rattle.agent_config.specs.Config.{InLimits, find_address};
+ghost use Rattle.agent_core.specs.Places.{Place};
+ghost use Rattle.agent_core.specs.History.{place};
 ghost use Rattle.transcript.specs.Text.{output_line, is_reply as reply_test, is_send as send_test, is_drop as drop_test};
-ghost use Rattle.agent_config.specs.Config.{InLimits, find_address, with_client};
-ghost use Rattle.agent_core.specs.History.{Event};
-ghost use Rattle.agent_tool.specs.Session.{AtMost, CanFollow, Followed, FollowedPart, GoesOn, IsBegun, IsDone, IsFailure, PrintsPart, RunsOn, Stands, counted, counts_so_far, end_of, event_text, no_counts};
+ghost use Rattle.transcript.specs.Run.{CanFollow, Stage, end_text, event_at, first, follow as followed, inputs_text, line_text, places_after};
+ghost use Rattle.transcript.specs.declared.line.Line.TheVariants as line;
+ghost use Rattle.agent_tool.specs.Session.{Follows, IsAt, IsDone, IsFailure, RunsAt, RunsOn, begun, counted};
 
 use crate::status::Status;
 use agent_config::{Client, Config};
@@ -17,7 +21,7 @@ use std::hash::RandomState;
 use transcript::{Line, print, print_end};
 use wire_core::{Put, Sink};
 
-/// How many lines of each kind were printed.
+/// How many lines of each kind were printed. A count stands still at its end.
 #[derive(Clone, Copy, Debug, PartialEq, Eq)]
 pub(crate) struct Counts {
     pub(crate) replies: u64,
@@ -25,15 +29,13 @@ pub(crate) struct Counts {
     pub(crate) drops: u64,
 }
 
-/// What the lines so far were.
+/// What the lines so far made of the agent: settings, and a core once an event came.
 #[derive(Drop)]
-pub(crate) enum Session {
-    /// None.
-    Start { random: RandomState },
-    /// The agent line and client lines.
-    Clients { random: RandomState, config: Config },
-    /// Event lines too.
-    Running { core: Core, counts: Counts },
+pub(crate) struct Session {
+    random: RandomState,
+    config: Option<Config>,
+    core: Option<Core>,
+    counts: Counts,
 }
 
 fn is_reply(output: &Output) -> bool
@@ -73,26 +75,13 @@ fn count_drops(outputs: &[Output]) -> u64
 }
 
 impl Counts {
-    /// Nothing was printed.
-    pub(crate) fn none() -> Counts
-        ensures { result ≡ no_counts }
-    {
-        Counts {
-            replies: 0,
-            sends: 0,
-            drops: 0,
-        }
-    }
-
     /// Counts these outputs too.
     fn add(&mut self, outputs: &[Output])
-        requires few { AtMost self.old 4398046511104 }
-        requires short { length outputs.now ≤ 2 }
         ensures { self.new ≡ counted self.old outputs.now }
     {
-        self.replies += count_replies(outputs);
-        self.sends += count_sends(outputs);
-        self.drops += count_drops(outputs);
+        self.replies = self.replies.saturating_add(count_replies(outputs));
+        self.sends = self.sends.saturating_add(count_sends(outputs));
+        self.drops = self.drops.saturating_add(count_drops(outputs));
     }
 }
 
@@ -141,8 +130,8 @@ fn write_outputs<K: Sink>(
     Ok(())
 }
 
-/// Runs an event and prints what goes out for it.
-fn run_event<K: Sink>(
+/// Runs an input and prints what goes out for it.
+fn run_input<K: Sink>(
     alloc: Global,
     core: &mut Core,
     counts: &mut Counts,
@@ -151,17 +140,15 @@ fn run_event<K: Sink>(
     input: &Input,
     sink: &mut K,
 ) -> Result<(), Status>
-    requires few { AtMost counts.old 4398046511104 }
-    requires stands { Stands core.old }
-    ensures runs { OnOk result (RunsOn core.old core.new counts.old counts.new number
-        (record { moment = moment; input = input.now }) (K.written sink.old) (K.written sink.new)) }
-    ensures part { PrintsPart core.old counts.old number (record { moment = moment; input = input.now })
-        (K.written sink.old) (K.written sink.new) }
+    ensures runs { (config : Config) (ps : List Place) → RunsAt core.old counts.old config ps
+        → OnOk result (RunsOn core.new counts.new config ps number (event_at moment input.now) (K.written sink.old) (K.written sink.new)) }
+    ensures part { (config : Config) (ps : List Place) → RunsAt core.old counts.old config ps
+        → AppendsPrefix (K.written sink.old) (K.written sink.new)
+        (flat_map (output_line number) (place config ps (event_at moment input.now)).outputs) }
     ensures fault { result ≡ Err Status.WriteFault → Rose (K.faults sink.old) (K.faults sink.new) }
     ensures failure { IfErr result IsFailure }
     ensures faults_stay { K.faults sink.old ≤ K.faults sink.new }
 {
-    agent_core::outputs_are_few();
     agent_core::past_goes_on();
     let Ok(outputs) = core.step(alloc, moment, input) else {
         return Err(Status::OutOfMemory);
@@ -176,151 +163,165 @@ fn run_event<K: Sink>(
     }
 }
 
-/// A further client, with an address of its own.
-fn add_client(random: RandomState, mut config: Config, client: Client) -> Result<Session, Status>
-    requires { find_address client.address config.clients ≡ None }
-    ensures added { IfOk result (λ new. new ≡ Session.Clients random (with_client config client)) }
-    ensures memory { IfErr result (λ status. status ≡ Status.OutOfMemory) }
-{
-    match config.clients.push(client) {
-        Ok(()) => Ok(Session::Clients { random, config }),
-        Err(_) => Err(Status::OutOfMemory),
-    }
-}
-
-/// Runs the first event.
-fn begin<K: Sink>(
+/// Runs the inputs of an event line, one after another.
+fn run_inputs<K: Sink>(
     alloc: Global,
-    random: RandomState,
-    config: Config,
+    core: &mut Core,
+    counts: &mut Counts,
     number: u64,
     moment: u64,
-    input: &Input,
+    inputs: &[Input],
     sink: &mut K,
-) -> Result<Session, Status>
-    requires { InLimits config }
-    ensures begun { IfOk result (λ new. IsBegun new config number (record { moment = moment; input = input.now }) (K.written sink.old) (K.written sink.new)) }
-    ensures part { AppendsPrefix (K.written sink.old) (K.written sink.new)
-        (event_text number config [] (record { moment = moment; input = input.now })) }
+) -> Result<(), Status>
+    ensures runs { (config : Config) (ps : List Place) → RunsAt core.old counts.old config ps
+        → OnOk result (RunsAt core.new counts.new config (places_after config ps moment inputs.now)
+        × Appends (K.written sink.old) (K.written sink.new) (inputs_text number config ps moment inputs.now)) }
+    ensures part { (config : Config) (ps : List Place) → RunsAt core.old counts.old config ps
+        → AppendsPrefix (K.written sink.old) (K.written sink.new) (inputs_text number config ps moment inputs.now) }
     ensures fault { result ≡ Err Status.WriteFault → Rose (K.faults sink.old) (K.faults sink.new) }
     ensures failure { IfErr result IsFailure }
     ensures faults_stay { K.faults sink.old ≤ K.faults sink.new }
 {
-    let Ok(mut core) = Core::new(alloc, random, config) else {
-        return Err(Status::OutOfMemory);
-    };
-    let mut counts = Counts::none();
-    match run_event(alloc, &mut core, &mut counts, number, moment, input, sink) {
-        Ok(()) => Ok(Session::Running { core, counts }),
-        Err(status) => Err(status),
+    for input in inputs {
+        match run_input(alloc, core, counts, number, moment, input, sink) {
+            Ok(()) => {}
+            Err(status) => return Err(status),
+        }
     }
+    Ok(())
 }
 
-/// Runs a further event.
-fn go_on<K: Sink>(
-    alloc: Global,
-    mut core: Core,
-    mut counts: Counts,
-    number: u64,
-    moment: u64,
-    input: &Input,
-    sink: &mut K,
-) -> Result<Session, Status>
-    requires few { AtMost counts 4398046511104 }
-    requires stands { Stands core }
-    ensures runs { IfOk result (λ new. GoesOn new core counts number (record { moment = moment; input = input.now }) (K.written sink.old) (K.written sink.new)) }
-    ensures part { PrintsPart core counts number (record { moment = moment; input = input.now })
-        (K.written sink.old) (K.written sink.new) }
-    ensures fault { result ≡ Err Status.WriteFault → Rose (K.faults sink.old) (K.faults sink.new) }
-    ensures failure { IfErr result IsFailure }
-    ensures faults_stay { K.faults sink.old ≤ K.faults sink.new }
-{
-    match run_event(alloc, &mut core, &mut counts, number, moment, input, sink) {
-        Ok(()) => Ok(Session::Running { core, counts }),
-        Err(status) => Err(status),
+impl Session {
+    /// Before the first line. `random` is for a table that hashes its keys.
+    pub(crate) fn new(random: RandomState) -> Session
+        ensures { IsAt result first }
+    {
+        Session {
+            random,
+            config: None,
+            core: None,
+            counts: Counts {
+                replies: 0,
+                sends: 0,
+                drops: 0,
+            },
+        }
     }
-}
 
-/// Follows a line.
-pub(crate) fn follow<K: Sink>(
-    alloc: Global,
-    session: Session,
-    line: Line,
-    sink: &mut K,
-) -> Result<Session, Status>
-    requires { CanFollow session line }
-    ensures follows { IfOk result (λ new. Followed session line new (K.written sink.old) (K.written sink.new)) }
-    ensures part { FollowedPart session line (K.written sink.old) (K.written sink.new) }
-    ensures fault { result ≡ Err Status.WriteFault → Rose (K.faults sink.old) (K.faults sink.new) }
-    ensures failure { IfErr result IsFailure }
-    ensures faults_stay { K.faults sink.old ≤ K.faults sink.new }
-{
-    match session {
-        Session::Start { random } => match line {
-            Line::Agent { config, .. } => Ok(Session::Clients { random, config }),
-            Line::Client { .. } | Line::Event { .. } => unreachable!(),
-        },
-        Session::Clients { random, config } => match line {
-            Line::Agent { .. } => unreachable!(),
-            Line::Client { client, .. } => add_client(random, config, client),
+    /// The settings that an agent line tells.
+    fn tell(&mut self, config: Config)
+        ensures { (stage : Stage) (number : ℕ) → IsAt self.old stage → IsAt self.new (followed stage (line.Agent number config)) }
+    {
+        if self.core.is_none() {
+            self.config = Some(config);
+        }
+    }
+
+    /// A further client of the settings.
+    fn join(&mut self, client: Client) -> Result<(), Status>
+        requires { IfSome self.old.config (λ config. find_address client.address config.clients ≡ None) }
+        ensures joins { (stage : Stage) (number : ℕ) → IsAt self.old stage
+            → OnOk result (IsAt self.new (followed stage (line.Client number client))) }
+        ensures memory { IfErr result (λ status. status ≡ Status.OutOfMemory) }
+    {
+        match &mut self.config {
+            None => Ok(()),
+            Some(config) => match config.clients.push(client) {
+                Ok(()) => Ok(()),
+                Err(_) => Err(Status::OutOfMemory),
+            },
+        }
+    }
+
+    /// Makes the core at the first event.
+    fn begin(&mut self, alloc: Global) -> Result<(), Status>
+        requires { IfSome self.old.config InLimits }
+        ensures begins { (stage : Stage) → IsAt self.old stage → OnOk result (IsAt self.new (begun stage)) }
+        ensures memory { IfErr result (λ status. status ≡ Status.OutOfMemory) }
+    {
+        if let Some(config) = self.config.take() {
+            let Ok(core) = Core::new(alloc, self.random, config) else {
+                return Err(Status::OutOfMemory);
+            };
+            self.core = Some(core);
+        }
+        Ok(())
+    }
+
+    /// Runs the inputs of an event line.
+    fn run<K: Sink>(
+        &mut self,
+        alloc: Global,
+        number: u64,
+        moment: u64,
+        inputs: &[Input],
+        sink: &mut K,
+    ) -> Result<(), Status>
+        ensures runs { (stage : Stage) → IsAt self.old (begun stage)
+            → OnOk result (Follows self.new stage (line.Event number moment inputs.now) (K.written sink.old) (K.written sink.new)) }
+        ensures part { (stage : Stage) → IsAt self.old (begun stage)
+            → AppendsPrefix (K.written sink.old) (K.written sink.new) (line_text stage (line.Event number moment inputs.now)) }
+        ensures fault { result ≡ Err Status.WriteFault → Rose (K.faults sink.old) (K.faults sink.new) }
+        ensures failure { IfErr result IsFailure }
+        ensures faults_stay { K.faults sink.old ≤ K.faults sink.new }
+    {
+        match &mut self.core {
+            None => Ok(()),
+            Some(core) => run_inputs(alloc, core, &mut self.counts, number, moment, inputs, sink),
+        }
+    }
+
+    /// Follows a line, and prints what it gives.
+    pub(crate) fn follow<K: Sink>(
+        &mut self,
+        alloc: Global,
+        line: Line,
+        sink: &mut K,
+    ) -> Result<(), Status>
+        requires { (stage : Stage) × IsAt self.old stage × CanFollow stage line }
+        ensures follows { (stage : Stage) → IsAt self.old stage
+            → OnOk result (Follows self.new stage line (K.written sink.old) (K.written sink.new)) }
+        ensures part { (stage : Stage) → IsAt self.old stage
+            → AppendsPrefix (K.written sink.old) (K.written sink.new) (line_text stage line) }
+        ensures fault { result ≡ Err Status.WriteFault → Rose (K.faults sink.old) (K.faults sink.new) }
+        ensures failure { IfErr result IsFailure }
+        ensures faults_stay { K.faults sink.old ≤ K.faults sink.new }
+    {
+        match line {
+            Line::Agent { config, .. } => {
+                self.tell(config);
+                Ok(())
+            }
+            Line::Client { client, .. } => self.join(client),
             Line::Event {
                 number,
                 moment,
                 inputs,
-            } => begin(
-                alloc,
-                random,
-                config,
-                number,
-                moment,
-                &inputs.as_slice()[0],
-                sink,
-            ),
-        },
-        Session::Running { core, counts } => match line {
-            Line::Agent { .. } | Line::Client { .. } => unreachable!(),
-            Line::Event {
-                number,
-                moment,
-                inputs,
-            } => go_on(
-                alloc,
-                core,
-                counts,
-                number,
-                moment,
-                &inputs.as_slice()[0],
-                sink,
-            ),
-        },
+            } => {
+                self.begin(alloc)?;
+                self.run(alloc, number, moment, inputs.as_slice(), sink)
+            }
+        }
     }
-}
 
-/// What was printed so far.
-fn counts_of(session: &Session) -> Counts
-    ensures { result ≡ counts_so_far session.now }
-{
-    match session {
-        Session::Start { .. } | Session::Clients { .. } => Counts::none(),
-        Session::Running { counts, .. } => *counts,
-    }
-}
-
-/// Prints the end line.
-pub(crate) fn finish<K: Sink>(alloc: Global, session: &Session, sink: &mut K) -> Status
-    ensures done { result ≡ Status.Done → Appends (K.written sink.old) (K.written sink.new) (end_of session.now) }
-    ensures part { AppendsPrefix (K.written sink.old) (K.written sink.new) (end_of session.now) }
-    ensures memory { result ≡ Status.OutOfMemory → K.written sink.new ≡ K.written sink.old }
-    ensures ends { IsDone result }
-    ensures fault { result ≡ Status.WriteFault → Rose (K.faults sink.old) (K.faults sink.new) }
-    ensures faults_stay { K.faults sink.old ≤ K.faults sink.new }
-{
-    let counts = counts_of(session);
-    let Ok(text) = print_end(alloc, counts.replies, counts.sends, counts.drops) else {
-        return Status::OutOfMemory;
-    };
-    match sink.write(text.as_slice()) {
-        Put::Done => Status::Done,
-        Put::Failed => Status::WriteFault,
+    /// Prints the end line.
+    pub(crate) fn close<K: Sink>(&self, alloc: Global, sink: &mut K) -> Status
+        ensures done { (stage : Stage) → IsAt self.now stage → result ≡ Status.Done
+            → Appends (K.written sink.old) (K.written sink.new) (end_text stage) }
+        ensures part { (stage : Stage) → IsAt self.now stage
+            → AppendsPrefix (K.written sink.old) (K.written sink.new) (end_text stage) }
+        ensures memory { result ≡ Status.OutOfMemory → K.written sink.new ≡ K.written sink.old }
+        ensures ends { IsDone result }
+        ensures fault { result ≡ Status.WriteFault → Rose (K.faults sink.old) (K.faults sink.new) }
+        ensures faults_stay { K.faults sink.old ≤ K.faults sink.new }
+    {
+        let counts = self.counts;
+        let Ok(text) = print_end(alloc, counts.replies, counts.sends, counts.drops) else {
+            return Status::OutOfMemory;
+        };
+        match sink.write(text.as_slice()) {
+            Put::Done => Status::Done,
+            Put::Failed => Status::WriteFault,
+        }
     }
 }

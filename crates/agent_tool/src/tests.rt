@@ -109,10 +109,7 @@ fn last_line_without_an_end(rt: HostRuntime) -> Result<(), Fail> {
 #[test]
 fn ends_before(rt: HostRuntime) -> Result<(), Fail> {
     let random = RandomState::new(&rt)?;
-    let bad = Status::BadTranscript {
-        line: 3,
-        reason: 99,
-    };
+    let bad = Status::BadTranscript { line: 3, reason: 2 };
     for (text, read, write, status, written) in [
         (ACCEPTED, 0, 9, Status::ReadFault, 0),
         (ACCEPTED, 5, 9, Status::ReadFault, 352),
@@ -156,12 +153,9 @@ fn statuses(rt: HostRuntime) -> Result<(), Fail> {
         (Status::Done, 0u8, "Done"),
         (Status::Usage, 1, "Usage"),
         (
-            Status::BadTranscript {
-                line: 3,
-                reason: 99,
-            },
+            Status::BadTranscript { line: 3, reason: 2 },
             3,
-            "BadTranscript 3 99",
+            "BadTranscript 3 2",
         ),
         (Status::ReadFault, 4, "ReadFault"),
         (Status::WriteFault, 5, "WriteFault"),

@@ -1,7 +1,7 @@
 -- The numbers of the reasons, in the one order in which they are looked at (profile).
 use Rattle.std.specs.Prelude.{ℕ}
 use Rattle.radius_packet.specs.declared.reasons.Reason.{Reason}
-use Rattle.radius_packet.specs.declared.reasons.Reason.TheVariants.{UnknownClient, Short, BadLength, BadCode, BadAttribute, BadAuthenticator, NoSeal, BadSeal, NasAddress, BothPasswords, BadPassword, NoStatus, OnOff, KeyAttribute, BadValue, ProxyStateTooLong, Waiting, Silent, LinkDown, Spent, Full, Backlog, BadMessage, WrongPhase, Unmatched, NotYet}
+use Rattle.radius_packet.specs.declared.reasons.Reason.TheVariants.{UnknownClient, Short, BadLength, BadCode, BadAttribute, BadAuthenticator, NoSeal, BadSeal, NasAddress, BothPasswords, BadPassword, NoStatus, OnOff, KeyAttribute, BadValue, ProxyStateTooLong, Waiting, Silent, LinkDown, Spent, Full, Backlog, BadMessage, WrongPhase, Unmatched}
 
 abbrev pub reason_number : Reason → ℕ
 reason_number UnknownClient = 1
@@ -29,4 +29,3 @@ reason_number Backlog = 22
 reason_number BadMessage = 23
 reason_number WrongPhase = 24
 reason_number Unmatched = 25
-reason_number NotYet = 99

@@ -55,14 +55,12 @@ pub enum Reason {
     WrongPhase,
     /// An answer that belongs to no request.
     Unmatched,
-    /// Input of a form that is not built.
-    NotYet,
 }
 
 impl Reason {
     ghost use Rattle.radius_packet.specs.Reasons.{reason_number};
 
-    /// Its number: 1 to 25 in order, and 99 for `NotYet`.
+    /// Its number: 1 to 25 in order.
     pub fn number(&self) -> u32
         ensures { result ≡ reason_number self.now }
     {
@@ -92,7 +90,6 @@ impl Reason {
             Reason::BadMessage => 23,
             Reason::WrongPhase => 24,
             Reason::Unmatched => 25,
-            Reason::NotYet => 99,
         }
     }
 }

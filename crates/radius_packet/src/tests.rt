@@ -227,5 +227,4 @@ fn no_room(rt: HostRuntime) -> Result<(), Fail> {
 fn numbers(rt: HostRuntime) {
     assert_eq!(rt; Reason::BadValue { code: 5 }.number(), 15);
     assert_eq!(rt; Reason::Unmatched.number(), 25);
-    assert_eq!(rt; Reason::NotYet.number(), 99);
 }

@@ -1,5 +1,5 @@
 -- The definitions on lines and octets from outside.
-use Rattle.std.proofs.Common.{◌≡◌, [], ◌∷◌, false, Some, codes, refl}
+use Rattle.std.proofs.Common.{◌≡◌, ℕ, List, [], ◌∷◌, Bool, false, Some, None, codes, refl}
 use Rattle.std.specs.Fmt.{digits}
 use Rattle.std.specs.Net.Reader.{read_number, read_octet, read_ipv4}
 use Rattle.wire_core.specs.Numbers.{number, u32}
@@ -8,30 +8,60 @@ use Rattle.radius_packet.specs.declared.reasons.Via.TheVariants.{Auth}
 use Rattle.agent_core.specs.declared.events.Input.TheVariants.{Datagram, Ready}
 use Rattle.agent_core.specs.declared.events.Output.TheVariants.{Reply}
 use Rattle.agent_config.specs.Config.{are_settings_in_limits, is_client_in_limits}
-use Rattle.transcript.specs.Words.{lines_of}
-use Rattle.transcript.specs.Lines.{agent_line, lone_client_line, event_line}
+use Rattle.transcript.specs.Words.{lines_of, words_of}
+use Rattle.transcript.specs.Kinds.{kind_of}
+use Rattle.transcript.specs.Lines.{client_of, event_of, settings_of}
 use Rattle.transcript.specs.Text.{end_line, output_line}
+use Rattle.transcript.specs.declared.happening.Happening.TheVariants.{Input, Link}
+use Rattle.transcript.specs.declared.kind.EventName.TheVariants as name
+use Rattle.transcript.specs.declared.kind.Kind.TheVariants as kind
 
 lines_of-two : lines_of (codes "ab\n\nc") ≡ codes "ab" ∷ [] ∷ codes "c" ∷ []
 lines_of-two = refl
 
-agent_line-example : agent_line (codes "agent agent.example example example 192.0.2.1 7 30000 64 64 30000") ≡ Some (record {
+-- ---- which line it is
+
+agent-kind : kind_of (words_of (codes "agent a b c 192.0.2.1 0 1000 1 2 6000")) ≡ Some kind.Agent
+agent-kind = refl
+
+patient-kind : kind_of (words_of (codes "agent a b c 192.0.2.1 0 1000 1 2 6000 2000")) ≡ Some kind.Agent
+patient-kind = refl
+
+too-many-words : kind_of (words_of (codes "agent a b c 192.0.2.1 0 1000 1 2 6000 2000 7")) ≡ None
+too-many-words = refl
+
+client-kind : kind_of (words_of (codes "client nas1 192.168.1.16 78 nas1.example example plain refuse -")) ≡ Some kind.Client
+client-kind = refl
+
+-- five words whose second is `auth` are an event, whatever stands for its moment
+odd-kind : kind_of (words_of (codes "client auth 192.168.1.16 1 00")) ≡ Some (kind.Event (name.Datagram Auth))
+odd-kind = refl
+
+no-kind : kind_of (words_of (codes "0 readi")) ≡ None
+no-kind = refl
+
+empty-kind : kind_of (words_of []) ≡ None
+empty-kind = refl
+
+-- ---- what it tells
+
+agent-example : settings_of (words_of (codes "agent agent.example example example 192.0.2.1 7 30000 64 64 30000 5000")) ≡ Some (record {
   host = codes "agent.example";
   realm = codes "example";
   home_realm = codes "example";
   address = 3221225985;
   boot = Some 7;
   retention = 30000;
-  patience = 30000;
+  patience = 5000;
   capacity = 64;
   backlog = 64;
   watchdog = 30000;
   clients = [];
 })
 unfolding number read_number read_octet read_ipv4 are_settings_in_limits
-agent_line-example = refl
+agent-example = refl
 
-client_line-example : lone_client_line (codes "client nas1 192.168.1.16 78797a7a7935343631 nas1.example example plain refuse -") ≡ Some (record {
+client-example : client_of (words_of (codes "client nas1 192.168.1.16 78797a7a7935343631 nas1.example example plain refuse -")) ≡ Some (record {
   name = codes "nas1";
   address = 3232235792;
   secret = codes "xyzzy5461";
@@ -42,15 +72,21 @@ client_line-example : lone_client_line (codes "client nas1 192.168.1.16 78797a7a
   nas = [];
 })
 unfolding number read_number read_octet read_ipv4 decode_pairs is_client_in_limits
-client_line-example = refl
+client-example = refl
 
-event_line-ready : event_line (codes "0 ready") ≡ Some (record { moment = 0; input = Ready })
-event_line-ready = refl
+ready-example : event_of name.Ready (words_of (codes "0 ready")) ≡ Some (0, Input Ready)
+ready-example = refl
 
-event_line-auth : event_line (codes "1000 auth 192.168.1.16 1812 01050026000102030405060708090a0b0c0d0e0f01066e656d6f20066e617331050600000003")
-    ≡ Some (record { moment = 1000; input = Datagram Auth 3232235792 1812 (1 ∷ 5 ∷ 0 ∷ 38 ∷ 0 ∷ 1 ∷ 2 ∷ 3 ∷ 4 ∷ 5 ∷ 6 ∷ 7 ∷ 8 ∷ 9 ∷ 10 ∷ 11 ∷ 12 ∷ 13 ∷ 14 ∷ 15 ∷ 1 ∷ 6 ∷ 110 ∷ 101 ∷ 109 ∷ 111 ∷ 32 ∷ 6 ∷ 110 ∷ 97 ∷ 115 ∷ 49 ∷ 5 ∷ 6 ∷ 0 ∷ 0 ∷ 0 ∷ 3 ∷ []) })
+auth-example : event_of (name.Datagram Auth) (words_of (codes "1000 auth 192.168.1.16 1812 0105"))
+    ≡ Some (1000, Input (Datagram Auth 3232235792 1812 (1 ∷ 5 ∷ [])))
 unfolding number read_number read_octet read_ipv4 decode_pairs
-event_line-auth = refl
+auth-example = refl
+
+link-example : event_of name.Link (words_of (codes "1100 link 0100aB")) ≡ Some (1100, Link (1 ∷ 0 ∷ 171 ∷ []))
+unfolding decode_pairs
+link-example = refl
+
+-- ---- what is printed
 
 output_line-reply : output_line 5 (Reply Auth 3232235792 1812 (2 ∷ 5 ∷ 0 ∷ 66 ∷ 251 ∷ 207 ∷ 191 ∷ 42 ∷ 179 ∷ 189 ∷ 244 ∷ 7 ∷ 246 ∷ 211 ∷ 113 ∷ 131 ∷ 181 ∷ 139 ∷ 0 ∷ 22 ∷ 80 ∷ 18 ∷ 151 ∷ 15 ∷ 117 ∷ 200 ∷ 47 ∷ 3 ∷ 253 ∷ 99 ∷ 88 ∷ 88 ∷ 134 ∷ 77 ∷ 13 ∷ 197 ∷ 136 ∷ 168 ∷ 25 ∷ 28 ∷ 68 ∷ 105 ∷ 97 ∷ 109 ∷ 101 ∷ 116 ∷ 101 ∷ 114 ∷ 47 ∷ 97 ∷ 103 ∷ 101 ∷ 110 ∷ 116 ∷ 46 ∷ 101 ∷ 120 ∷ 97 ∷ 109 ∷ 112 ∷ 108 ∷ 101 ∷ 59 ∷ 55 ∷ 59 ∷ 48 ∷ []))
     ≡ codes "5 reply auth 192.168.1.16 1812 02050042fbcfbf2ab3bdf407f6d37183b58b00165012970f75c82f03fd635858864d0dc588a8191c4469616d657465722f6167656e742e6578616d706c653b373b30\n"

@@ -1,9 +1,9 @@
 pub mod Examples
-pub mod LineLaws
-pub mod PieceLemmas
+pub mod FollowLemmas
+pub mod InputLemmas
+pub mod LineLemmas
 pub mod PrintLemmas
-pub mod ReadingLaws
-pub mod RunLemmas
-mod StopLemmas
-mod StreamLemmas
+pub mod SettingsLemmas
+pub mod StreamLemmas
+pub mod TakingLemmas
 pub mod WordLemmas

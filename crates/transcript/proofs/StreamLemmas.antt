@@ -13,7 +13,7 @@ use Rattle.transcript.specs.declared.intake.TakeFault.{TakeFault}
 use Rattle.transcript.specs.declared.intake.TakeFault.TheVariants as take
 use Rattle.transcript.specs.declared.raw_lines.RawFault.{RawFault}
 use Rattle.transcript.specs.declared.raw_lines.RawFault.TheVariants as raw
-use Rattle.transcript.specs.Streams.{Cuts, Cutting, Held, IsTakeFault, IsUnended, Refills, TakesNone, rest_of}
+use Rattle.transcript.specs.Streams.{Cuts, Cutting, Held, IsTakeFault, IsUnended, Refills, TakesNone, most_octets, rest_of}
 
 -- a part of a list without its first octets
 pub drop-range : (xs : List ℕ) (start end count : ℕ) → start + count ≤ end
@@ -74,12 +74,13 @@ Consumes-held c left = record { front = refl }
 
 -- why the present line can't be gone on with, where these octets of it were taken before
 pub cut-fault : (fault : RawFault) (before left : Option (List ℕ)) (old mid new : Cutting)
-    → Consumes before (rest_of mid left) mid.line → IsUnended mid.line → Cuts (Err fault) mid new
-    → TakesNone fault before left old new
-cut-fault raw.Read before left old mid new taken unended cuts = absurd cuts
-cut-fault raw.TooMuch before left old mid new taken unended cuts = absurd cuts
-cut-fault raw.NoMemory before left old mid new taken unended cuts = (mid.line ++ mid.held.octets, Consumes-append taken (Consumes-held mid left))
-cut-fault raw.LongLine before left old mid new taken unended (piece, (more, whole, is, long)) =
+    → Consumes before (rest_of mid left) mid.line → IsUnended mid.line
+    → mid.held.passed ≡ old.held.passed + length mid.line → mid.held.passed + length mid.held.octets ≤ most_octets
+    → Cuts (Err fault) mid new → TakesNone fault before left old new
+cut-fault raw.Read before left old mid new taken unended passed within cuts = absurd cuts
+cut-fault raw.TooMuch before left old mid new taken unended passed within cuts = absurd cuts
+cut-fault raw.NoMemory before left old mid new taken unended passed within cuts = (mid.line ++ mid.held.octets, Consumes-append taken (Consumes-held mid left))
+cut-fault raw.LongLine before left old mid new taken unended passed within (piece, (more, whole, is, long)) =
     let front = ap (λ xs. mid.line ++ xs) is ∙ sym (append_assoc mid.line piece more) in (
       mid.line ++ piece,
       (
@@ -87,6 +88,7 @@ cut-fault raw.LongLine before left old mid new taken unended (piece, (more, whol
         unended-append mid.line piece unended whole,
         subst (λ xs. Consumes before left xs) front (Consumes-append taken (Consumes-held mid left)),
         omega (arith, length-append mid.line piece),
+        omega (arith, passed, within, ap length is, length-append mid.line piece, length-append piece more, length-append (mid.line ++ piece) more),
       ),
     )
 

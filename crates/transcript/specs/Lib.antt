@@ -1,8 +1,12 @@
+pub mod Inputs
+pub mod Kinds
 pub mod Lines
+pub mod Positions
 pub mod Reading
 pub mod Reads
 pub mod Run
 pub mod Streams
+pub mod Taking
 pub mod Text
 pub mod Views
 pub mod Words

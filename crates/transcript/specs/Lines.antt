@@ -1,37 +1,37 @@
--- The lines of a transcript: the agent line, then client lines, then event lines (profile).
-use Rattle.std.specs.Prelude.{◌≡◌, ℕ, nat_le, nat_lt, ◌&&◌, List, [], ◌∷◌, length, codes, Option, Some, None, is_none, option_map, is_ok, if◌then◌else◌}
-use Rattle.std.specs.Option.{option_map_or}
-use Rattle.std.specs.Str.{bytes_eq}
-use Rattle.radius_packet.specs.declared.reasons.Via.TheVariants.{Auth}
-use Rattle.diameter_message.specs.Message.{read_message}
+-- What the words of a transcript's lines tell, each of its kind and within its limits (profile).
+use Rattle.std.specs.Prelude.{ℕ, List, [], ◌∷◌, codes, Option, Some, None, if◌then◌else◌}
+use Rattle.radius_packet.specs.declared.reasons.Via.{Via}
 use Rattle.agent_config.specs.declared.client.Client.{Client}
 use Rattle.agent_config.specs.declared.config.Config.{Config}
-use Rattle.agent_config.specs.Config.{find_address, is_client_in_limits, are_settings_in_limits, with_client}
+use Rattle.agent_config.specs.Config.{are_settings_in_limits, is_client_in_limits}
 use Rattle.agent_config.specs.Values.{address_in}
-use Rattle.agent_core.specs.declared.events.Input.{Input}
-use Rattle.agent_core.specs.declared.events.Input.TheVariants.{Datagram, Ready, Message}
-use Rattle.agent_core.specs.History.{Event}
-use Rattle.transcript.specs.Words.{◌>>=◌, lines_of, words_of, number_word, hex_word, choice_word, addresses_word}
+use Rattle.agent_core.specs.declared.events.Input.TheVariants as input
+use Rattle.transcript.specs.Words.{◌>>=◌, number_word, hex_word, choice_word, addresses_word}
+use Rattle.transcript.specs.declared.kind.EventName.{EventName}
+use Rattle.transcript.specs.declared.kind.EventName.TheVariants.{Datagram, Link, Up, Ready, Down, Tick, Drain, Leave}
+use Rattle.transcript.specs.declared.happening.Happening.{Happening}
+use Rattle.transcript.specs.declared.happening.Happening.TheVariants as happening
 
--- the words after the first one, which has to be this
-abbrev pub words_after : List ℕ → List (List ℕ) → Option (List (List ℕ))
-words_after name [] = None
-words_after name (word ∷ words) = if bytes_eq word name then Some words else None
+-- ---- agent HOST REALM HOME ADDRESS BOOT RETENTION CAPACITY BACKLOG WATCHDOG PATIENCE
 
--- ---- the agent line: agent HOST REALM HOME ADDRESS BOOT RETENTION CAPACITY BACKLOG WATCHDOG
+-- the last word may be missing: the patience is then the retention
+abbrev pub patience_of : ℕ → Option (List ℕ) → Option ℕ
+patience_of retention None = Some retention
+patience_of retention (Some patience) = number_word 18446744073709551615 patience
 
 abbrev pub in_limits : Config → Option Config
 in_limits config = if are_settings_in_limits config then Some config else None
 
--- the settings that the words after `agent` stand for, with no clients; the patience is the retention
-abbrev pub settings_of : List (List ℕ) → Option Config
-settings_of (host ∷ realm ∷ home ∷ address ∷ boot ∷ retention ∷ capacity ∷ backlog ∷ watchdog ∷ []) = do
+-- the settings, still without clients
+abbrev pub settings_by : (host realm home address boot retention capacity backlog watchdog : List ℕ) → Option (List ℕ) → Option Config
+settings_by host realm home address boot retention capacity backlog watchdog patience = do
   address ← address_in address
   boot ← number_word 4294967295 boot
   retention ← number_word 18446744073709551615 retention
   capacity ← number_word 4294967295 capacity
   backlog ← number_word 4294967295 backlog
   watchdog ← number_word 18446744073709551615 watchdog
+  patience ← patience_of retention patience
   in_limits (record {
     host = host;
     realm = realm;
@@ -39,27 +39,29 @@ settings_of (host ∷ realm ∷ home ∷ address ∷ boot ∷ retention ∷ capa
     address = address;
     boot = Some boot;
     retention = retention;
-    patience = retention;
+    patience = patience;
     capacity = capacity;
     backlog = backlog;
     watchdog = watchdog;
     clients = [];
   })
+
+abbrev pub first_of : List (List ℕ) → Option (List ℕ)
+first_of [] = None
+first_of (word ∷ words) = Some word
+
+abbrev pub settings_of : List (List ℕ) → Option Config
+settings_of (line ∷ host ∷ realm ∷ home ∷ address ∷ boot ∷ retention ∷ capacity ∷ backlog ∷ watchdog ∷ more) =
+    settings_by host realm home address boot retention capacity backlog watchdog (first_of more)
 settings_of words = None
 
-abbrev pub agent_line : List ℕ → Option Config
-agent_line line = do
-  words ← words_after (codes "agent") (words_of line)
-  settings_of words
-
--- ---- a client line: client NAME ADDRESS SECRET OHOST OREALM SEAL KEYS NAS
+-- ---- client NAME ADDRESS SECRET OHOST OREALM SEAL KEYS NAS
 
 abbrev pub client_in_limits : Client → Option Client
 client_in_limits client = if is_client_in_limits client then Some client else None
 
--- the client that the words after `client` stand for
-abbrev pub client_of : List (List ℕ) → Option Client
-client_of (name ∷ address ∷ secret ∷ host ∷ realm ∷ seal ∷ keys ∷ nas ∷ []) = do
+abbrev pub client_by : (name address secret host realm seal keys nas : List ℕ) → Option Client
+client_by name address secret host realm seal keys nas = do
   address ← address_in address
   secret ← hex_word secret
   require_seal ← choice_word (codes "seal") (codes "plain") seal
@@ -75,93 +77,45 @@ client_of (name ∷ address ∷ secret ∷ host ∷ realm ∷ seal ∷ keys ∷ 
     omit_keys = omit_keys;
     nas = nas;
   })
+
+abbrev pub client_of : List (List ℕ) → Option Client
+client_of (line ∷ name ∷ address ∷ secret ∷ host ∷ realm ∷ seal ∷ keys ∷ nas ∷ []) =
+    client_by name address secret host realm seal keys nas
 client_of words = None
 
--- a client by itself, whatever lines came before
-abbrev pub lone_client_line : List ℕ → Option Client
-lone_client_line line = do
-  words ← words_after (codes "client") (words_of line)
-  client_of words
+-- ---- events
 
--- at most 1,024 clients, each with an address of its own
-abbrev pub admitted : Config → Client → Option Client
-admitted config client =
-    if nat_lt (length config.clients) 1024 && is_none (find_address client.address config.clients) then Some client
-    else None
-
-abbrev pub client_line : Config → List ℕ → Option Client
-client_line config line = do
-  client ← lone_client_line line
-  admitted config client
-
--- ---- an event line: MOMENT ready, MOMENT auth ADDRESS PORT HEX, or MOMENT link HEX
-
-abbrev pub ready_of : List (List ℕ) → Option Input
-ready_of [] = Some Ready
-ready_of (word ∷ words) = None
-
-abbrev pub datagram_of : List (List ℕ) → Option Input
-datagram_of (address ∷ port ∷ hex ∷ []) = do
+-- ADDRESS PORT HEX
+abbrev pub datagram_of : Via → List (List ℕ) → Option Happening
+datagram_of via (address ∷ port ∷ hex ∷ []) = do
   address ← address_in address
   port ← number_word 65535 port
   octets ← hex_word hex
-  Some (Datagram Auth address port octets)
-datagram_of words = None
+  Some (happening.Input (input.Datagram via address port octets))
+datagram_of via words = None
 
--- one whole message, of at most 65,536 octets
-abbrev pub message_in : List ℕ → Option Input
-message_in octets =
-    if nat_le (length octets) 65536 && is_ok (read_message octets) then Some (Message octets) else None
-
-abbrev pub message_of : List (List ℕ) → Option Input
-message_of (hex ∷ []) = do
+-- HEX
+abbrev pub link_of : List (List ℕ) → Option Happening
+link_of (hex ∷ []) = do
   octets ← hex_word hex
-  message_in octets
-message_of words = None
+  Some (happening.Link octets)
+link_of words = None
 
--- the name of the event decides what may follow
-abbrev pub input_of : List (List ℕ) → Option Input
-input_of [] = None
-input_of (name ∷ words) =
-    if bytes_eq name (codes "ready") then ready_of words
-    else if bytes_eq name (codes "auth") then datagram_of words
-    else if bytes_eq name (codes "link") then message_of words
-    else None
+-- what stands behind the name
+abbrev pub happening_of : EventName → List (List ℕ) → Option Happening
+happening_of (Datagram via) words = datagram_of via words
+happening_of Link words = link_of words
+happening_of Up words = Some (happening.Input input.Up)
+happening_of Ready words = Some (happening.Input input.Ready)
+happening_of Down words = Some (happening.Input input.Down)
+happening_of Tick words = Some (happening.Input input.Tick)
+happening_of Drain words = Some (happening.Input input.Drain)
+happening_of Leave words = Some (happening.Input input.Leave)
 
-abbrev pub event_of : List (List ℕ) → Option Event
-event_of [] = None
-event_of (moment ∷ words) = do
+-- the moment, and what happened then
+abbrev pub event_of : EventName → List (List ℕ) → Option (ℕ × Happening)
+event_of name (moment ∷ word ∷ words) = do
   moment ← number_word 18446744073709551615 moment
-  input ← input_of words
-  Some (record { moment = moment; input = input })
-
-abbrev pub event_line : List ℕ → Option Event
-event_line line = event_of (words_of line)
-
--- ---- whole transcripts
-
--- event lines only
-abbrev pub read_events : List (List ℕ) → Option (List Event)
-read_events [] = Some []
-read_events (line ∷ lines) = do
-  event ← event_line line
-  events ← read_events lines
-  Some (event ∷ events)
-
--- client lines as long as they can be read as such, then event lines
-abbrev pub read_clients : Config → List (List ℕ) → Option (Config × List Event)
-read_clients config [] = Some (config, [])
-read_clients config (line ∷ lines) =
-    option_map_or (λ client. read_clients (with_client config client) lines) (client_line config line)
-    (option_map (λ events. (config, events)) (read_events (line ∷ lines)))
-
--- the agent line and what follows it
-abbrev pub read_transcript : List (List ℕ) → Option (Config × List Event)
-read_transcript [] = None
-read_transcript (line ∷ lines) = do
-  config ← agent_line line
-  read_clients config lines
-
--- the text is a transcript with these settings and events
-abbrev pub IsTranscript : List ℕ → Config → List Event → Type 0
-IsTranscript text config events = read_transcript (lines_of text) ≡ Some (config, events)
+  told ← happening_of name words
+  Some (moment, told)
+event_of name words = None

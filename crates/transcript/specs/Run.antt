@@ -1,89 +1,109 @@
--- A transcript's run line by line, up to the first line that may not stand where it stands (profile).
-use Rattle.std.specs.Prelude.{◌≡◌, ℕ, ◌+◌, List, [], ◌∷◌, ◌++◌, take, Option, Some, None, option_map}
+-- What a transcript prints: its lines are followed one after another (profile).
+use Rattle.std.specs.Prelude.{◌≡◌, ℕ, ◌-◌, ◌^◌, ◌<◌, Bool, Ok, List, [], ◌∷◌, ◌++◌, length, map, min, count_by, sum_by, Option, Some, None, option_map, ⊤}
 use Rattle.std.specs.List.{flat_map}
-use Rattle.std.specs.Option.{option_map_or}
+use Rattle.agent_config.specs.declared.client.Client.{Client}
 use Rattle.agent_config.specs.declared.config.Config.{Config}
-use Rattle.agent_config.specs.Config.{with_client}
-use Rattle.agent_core.specs.History.{Place, place}
-use Rattle.transcript.specs.Words.{lines_of}
-use Rattle.transcript.specs.Lines.{agent_line, client_line, event_line}
-use Rattle.transcript.specs.Text.{end_text, event_number, place_text, text_of, text_of_lines}
+use Rattle.agent_config.specs.Config.{ClientInLimits, InLimits, find_address, with_client}
+use Rattle.agent_core.specs.declared.events.Input.{Input}
+use Rattle.agent_core.specs.declared.events.Output.{Output}
+use Rattle.agent_core.specs.Places.{Event, Place}
+use Rattle.agent_core.specs.History.{place}
+use Rattle.transcript.specs.Text.{end_line, is_drop, is_reply, is_send, output_line}
+use Rattle.transcript.specs.Reading.{At, read_line}
+use Rattle.transcript.specs.declared.line.Line.{Line}
+use Rattle.transcript.specs.declared.line.Line.TheVariants as line
+use Rattle.transcript.specs.declared.position.Section.TheVariants as section
 
--- what the lines so far were: none, the agent line and perhaps client lines, or event lines too
+-- ---- one line
+
+-- what the lines so far made of the agent: the settings as far as they were told, or settings and the places of a history,
+-- the newest first
 pub data Stage : Type 0 where
-  Start : Stage
-  Clients : Config → Stage
-  Events : Config → List Place → Stage
+  Settings : Option Config → Stage
+  Running : Config → List Place → Stage
 
--- the places so far, the newest first
+abbrev pub event_at : ℕ → Input → Event
+event_at moment x = record { moment = moment; input = x }
+
+-- the places after inputs of one moment
+abbrev pub places_after : Config → List Place → ℕ → List Input → List Place
+places_after config ps moment [] = ps
+places_after config ps moment (x ∷ xs) = places_after config (place config ps (event_at moment x) ∷ ps) moment xs
+
+-- and what they print, on the line with this number
+abbrev pub inputs_text : ℕ → Config → List Place → ℕ → List Input → List ℕ
+inputs_text number config ps moment [] = []
+inputs_text number config ps moment (x ∷ xs) =
+    flat_map (output_line number) (place config ps (event_at moment x)).outputs
+    ++ inputs_text number config (place config ps (event_at moment x) ∷ ps) moment xs
+
+abbrev pub follow : Stage → Line → Stage
+follow (Settings told) (line.Agent number config) = Settings (Some config)
+follow (Settings told) (line.Client number client) = Settings (option_map (λ config. with_client config client) told)
+follow (Settings None) (line.Event number moment inputs) = Settings None
+follow (Settings (Some config)) (line.Event number moment inputs) = Running config (places_after config [] moment inputs)
+follow (Running config ps) (line.Agent number other) = Running config ps
+follow (Running config ps) (line.Client number client) = Running config ps
+follow (Running config ps) (line.Event number moment inputs) = Running config (places_after config ps moment inputs)
+
+abbrev pub line_text : Stage → Line → List ℕ
+line_text (Settings told) (line.Agent number config) = []
+line_text (Settings told) (line.Client number client) = []
+line_text (Settings None) (line.Event number moment inputs) = []
+line_text (Settings (Some config)) (line.Event number moment inputs) = inputs_text number config [] moment inputs
+line_text (Running config ps) (line.Agent number other) = []
+line_text (Running config ps) (line.Client number client) = []
+line_text (Running config ps) (line.Event number moment inputs) = inputs_text number config ps moment inputs
+
+-- ---- whole transcripts
+
+abbrev pub first : Stage
+first = Settings None
+
+abbrev pub stage_after : Stage → List Line → Stage
+stage_after stage [] = stage
+stage_after stage (l ∷ lines) = stage_after (follow stage l) lines
+
+abbrev pub text_of_lines : Stage → List Line → List ℕ
+text_of_lines stage [] = []
+text_of_lines stage (l ∷ lines) = line_text stage l ++ text_of_lines (follow stage l) lines
+
 abbrev pub places_in : Stage → List Place
-places_in Start = []
-places_in (Clients config) = []
-places_in (Events config ps) = ps
+places_in (Settings told) = []
+places_in (Running config ps) = ps
 
--- the number of the next line
-abbrev pub line_number : Stage → ℕ
-line_number Start = 1
-line_number (Clients config) = event_number config []
-line_number (Events config ps) = event_number config ps
+-- How many outputs of a kind went out. A count stands still at the end of 64 bits.
+abbrev pub outputs_of : (Output → Bool) → List Place → ℕ
+outputs_of kind ps = min (sum_by (λ p. count_by kind p.outputs) ps) (2 ^ 64 - 1)
 
--- a line's work: the stage after it, and what it prints
-abbrev pub Step : Type 0
-Step = Stage × List ℕ
+abbrev pub end_text : Stage → List ℕ
+end_text stage =
+    end_line (outputs_of is_reply (places_in stage)) (outputs_of is_send (places_in stage)) (outputs_of is_drop (places_in stage))
 
-abbrev pub event_step : Config → List Place → List ℕ → Option Step
-event_step config ps line =
-    option_map (λ e. (Events config (place config ps e ∷ ps), place_text config ps (place config ps e))) (event_line line)
+-- what a transcript of these lines prints
+abbrev pub transcript_text : List Line → List ℕ
+transcript_text lines = text_of_lines first lines ++ end_text (stage_after first lines)
 
-abbrev pub step : Stage → List ℕ → Option Step
-step Start line = option_map (λ config. (Clients config, [])) (agent_line line)
-step (Clients config) line =
-    option_map_or (λ client. Some (Clients (with_client config client), [])) (client_line config line)
-    (event_step config [] line)
-step (Events config ps) line = event_step config ps line
+-- ---- what follows from reading
 
--- what a run prints, and the number of the line at which it stops before the end
-pub record Run : Type 0 where
-  pub printed : List ℕ
-  pub stop : Option ℕ
+-- the clients so far are those of the settings so far
+abbrev pub Agrees : At → Stage → Type 0
+Agrees at (Settings None) = (at.section ≡ section.Start) × (at.addresses ≡ [])
+Agrees at (Settings (Some config)) =
+    (at.section ≡ section.Settings) × (at.addresses ≡ map (λ c. c.address) config.clients) × InLimits config
+Agrees at (Running config ps) = at.section ≡ section.Events
 
-abbrev pub print_first : List ℕ → Run → Run
-print_first text run = record { printed = text ++ run.printed; stop = run.stop }
+-- what a line that is followed wants
+abbrev pub CanFollow : Stage → Line → Type 0
+CanFollow (Settings told) (line.Agent number config) = InLimits config
+CanFollow (Settings None) (line.Client number client) = ⊤
+CanFollow (Settings (Some config)) (line.Client number client) =
+    InLimits config × ClientInLimits client × (length config.clients < 1024) × (find_address client.address config.clients ≡ None)
+CanFollow (Settings None) (line.Event number moment inputs) = ⊤
+CanFollow (Settings (Some config)) (line.Event number moment inputs) = InLimits config
+CanFollow (Running config ps) said = ⊤
 
-abbrev pub run_from : Stage → List (List ℕ) → Run
-run_from stage [] = record { printed = end_text (places_in stage); stop = None }
-run_from stage (line ∷ lines) =
-    option_map_or (λ s. print_first s.1 (run_from s.0 lines)) (step stage line)
-    (record { printed = []; stop = Some (line_number stage) })
-
-abbrev pub run_of : List ℕ → Run
-run_of text = run_from Start (lines_of text)
-
--- what these lines print, one after another, up to the first that may not stand where it stands, without an end line
-abbrev pub printed_by : Stage → List (List ℕ) → List ℕ
-printed_by stage [] = []
-printed_by stage (line ∷ lines) = option_map_or (λ s. s.1 ++ printed_by s.0 lines) (step stage line) []
-
--- these lines as octets, each ended by the octet 0a
-abbrev pub ended_text : List (List ℕ) → List ℕ
-ended_text lines = flat_map (λ line. line ++ 10 ∷ []) lines
-
--- what a run prints that doesn't stop before the end
-abbrev pub whole_text : Run → Option (List ℕ)
-whole_text run = option_map_or (λ line. None) run.stop (Some run.printed)
-
--- a run goes to the end exactly where the text is a transcript, and then prints the transcript's text
-abbrev pub RunPrintsText : Type 0
-RunPrintsText = (text : List ℕ) → whole_text (run_of text) ≡ text_of text
-
--- A run that stops before the end stops at the first line with which the text is no transcript: the lines before it
--- are one, and no lines that begin with these and this one are.
-pub record StopsFirst (lines : List (List ℕ)) (n : ℕ) : Type 0 where
-  pub before : ℕ
-  pub is_next : n ≡ before + 1
-  pub text : List ℕ
-  pub reads : text_of_lines (take before lines) ≡ Some text
-  pub fails : (more : List (List ℕ)) → text_of_lines (take n lines ++ more) ≡ None
-
-abbrev pub RunStopsFirst : Type 0
-RunStopsFirst = (lines : List (List ℕ)) (n : ℕ) → (run_from Start lines).stop ≡ Some n → StopsFirst lines n
+-- a line that was read can be followed, and the next one then too
+abbrev pub LinesCanFollow : Type 0
+LinesCanFollow = (at : At) (stage : Stage) (octets : List ℕ) (said : Line) (next : At) → Agrees at stage
+    → read_line at octets ≡ Ok (said, next) → CanFollow stage said × Agrees next (follow stage said)

@@ -1,5 +1,5 @@
 -- How the octets of a source become lines.
-use Rattle.std.specs.Prelude.{◌≡◌, ℕ, ◌+◌, ◌<◌, Bool, true, false, ◌==◌, List, [], ◌∷◌, ◌++◌, length, drop, Option, Result, Ok, Err, ⊤}
+use Rattle.std.specs.Prelude.{◌≡◌, ℕ, ◌+◌, ◌<◌, ◌≤◌, Bool, true, false, ◌==◌, List, [], ◌∷◌, ◌++◌, length, drop, Option, Result, Ok, Err, ⊤}
 use Rattle.std.specs.List.{list_any}
 use Rattle.std.specs.Io.KnownBytes.{prepend_known}
 use Rattle.wire_core.specs.Source.{Consumes, IsAtEnd}
@@ -9,6 +9,10 @@ use Rattle.transcript.specs.declared.raw_lines.RawFault.{RawFault}
 use Rattle.transcript.specs.declared.raw_lines.RawFault.TheVariants as raw
 use Rattle.transcript.specs.declared.raw_lines.RawLine.{RawLine}
 use Rattle.transcript.specs.declared.raw_lines.RawLine.TheVariants.{Line, LastLine, End}
+
+-- 2^40: as many octets are taken of a source at most
+abbrev pub most_octets : ℕ
+most_octets = 1099511627776
 
 -- octets that were taken of a source and not passed on yet, and how many were passed on
 pub record Held : Type 0 where
@@ -23,7 +27,7 @@ Refills (Ok true) before now old new =
 Refills (Ok false) before now old new = (now ≡ before) × (new ≡ old) × IsAtEnd before
 Refills (Err Read) before now old new = (now ≡ before) × (new ≡ old)
 Refills (Err TooMuch) before now old new =
-    (old.passed ≡ 1099511627776) × (new ≡ old) × ((x : ℕ) × Consumes before now (x ∷ []))
+    (old.passed ≡ most_octets) × (new ≡ old) × ((x : ℕ) × Consumes before now (x ∷ []))
 
 -- no line ends within these octets
 abbrev pub IsUnended : List ℕ → Type 0
@@ -73,8 +77,9 @@ SourceEnded (Err fault) = ⊥
 abbrev pub TakesNone : RawFault → Option (List ℕ) → Option (List ℕ) → Cutting → Cutting → Type 0
 TakesNone raw.Read before left old new = (xs : List ℕ) × IsUnended xs × Consumes before left xs
 TakesNone raw.TooMuch before left old new = (xs : List ℕ) × ((x : ℕ) × IsUnended xs × Consumes before left (xs ++ x ∷ [])
-    × (old.held.passed + length xs ≡ 1099511627776))
-TakesNone raw.LongLine before left old new = (xs : List ℕ) × ((more : List ℕ) × IsUnended xs × Consumes before left (xs ++ more) × (140000 < length xs))
+    × (old.held.passed + length xs ≡ most_octets))
+TakesNone raw.LongLine before left old new = (xs : List ℕ) × ((more : List ℕ) × IsUnended xs × Consumes before left (xs ++ more) × (140000 < length xs)
+    × (old.held.passed + length (xs ++ more) ≤ most_octets))
 TakesNone raw.NoMemory before left old new = (xs : List ℕ) × Consumes before left xs
 
 -- the same fault of a line

@@ -1,23 +1,19 @@
--- What a transcript's run prints (profile).
-use Rattle.std.specs.Prelude.{ℕ, ◌+◌, Bool, true, false, nat_eq, List, [], ◌∷◌, ◌++◌, length, map, codes, decimal, count_by, sum_by, Option, Some, option_map, if◌then◌else◌}
-use Rattle.std.specs.List.{join_with_byte, flat_map}
+-- The lines that outputs are printed as (profile).
+use Rattle.std.specs.Prelude.{ℕ, Bool, true, false, nat_eq, List, [], ◌∷◌, ◌++◌, length, map, codes, decimal, if◌then◌else◌}
+use Rattle.std.specs.List.{join_with_byte}
 use Rattle.wire_core.specs.Numbers.{u32}
 use Rattle.hex.specs.Hex.{encode_lower}
 use Rattle.radius_packet.specs.declared.reasons.Via.{Via}
 use Rattle.radius_packet.specs.declared.reasons.Via.TheVariants.{Auth, Acct}
 use Rattle.radius_packet.specs.declared.reasons.Reason.{Reason}
-use Rattle.radius_packet.specs.declared.reasons.Reason.TheVariants.{UnknownClient, Short, BadLength, BadCode, BadAttribute, BadAuthenticator, NoSeal, BadSeal, NasAddress, BothPasswords, BadPassword, NoStatus, OnOff, KeyAttribute, BadValue, ProxyStateTooLong, Waiting, Silent, LinkDown, Spent, Full, Backlog, BadMessage, WrongPhase, Unmatched, NotYet}
+use Rattle.radius_packet.specs.declared.reasons.Reason.TheVariants.{UnknownClient, Short, BadLength, BadCode, BadAttribute, BadAuthenticator, NoSeal, BadSeal, NasAddress, BothPasswords, BadPassword, NoStatus, OnOff, KeyAttribute, BadValue, ProxyStateTooLong, Waiting, Silent, LinkDown, Spent, Full, Backlog, BadMessage, WrongPhase, Unmatched}
 use Rattle.radius_packet.specs.Reasons.{reason_number}
 use Rattle.diameter_message.specs.declared.fault.FrameFault.{FrameFault}
 use Rattle.diameter_message.specs.declared.fault.FrameFault.TheVariants as frame
 use Rattle.peer_machine.specs.declared.LinkCause.{LinkCause}
 use Rattle.peer_machine.specs.declared.LinkCause.TheVariants as link
-use Rattle.agent_config.specs.declared.config.Config.{Config}
 use Rattle.agent_core.specs.declared.events.Output.{Output}
 use Rattle.agent_core.specs.declared.events.Output.TheVariants.{Reply, Send, Dropped, Closed}
-use Rattle.agent_core.specs.History.{Event, Place, place}
-use Rattle.transcript.specs.Words.{lines_of}
-use Rattle.transcript.specs.Lines.{read_transcript}
 
 -- ---- one line
 
@@ -59,7 +55,6 @@ reason_name Backlog = codes "Backlog"
 reason_name BadMessage = codes "BadMessage"
 reason_name WrongPhase = codes "WrongPhase"
 reason_name Unmatched = codes "Unmatched"
-reason_name NotYet = codes "NotYet"
 
 -- what stands after a reason's name: the type of the attribute with a bad value
 abbrev pub reason_words : Reason → List (List ℕ)
@@ -100,7 +95,7 @@ output_line line output = line_text (decimal line ∷ output_words output)
 abbrev pub end_line : ℕ → ℕ → ℕ → List ℕ
 end_line replies sends drops = line_text (codes "end" ∷ decimal replies ∷ decimal sends ∷ decimal drops ∷ [])
 
--- ---- a whole run; the places are the newest first
+-- ---- which outputs are counted
 
 abbrev pub is_reply : Output → Bool
 is_reply (Reply via address port octets) = true
@@ -113,37 +108,3 @@ is_send output = false
 abbrev pub is_drop : Output → Bool
 is_drop (Dropped reason) = true
 is_drop output = false
-
--- how many outputs of a kind went out
-abbrev pub outputs_of : (Output → Bool) → List Place → ℕ
-outputs_of kind ps = sum_by (λ p. count_by kind p.outputs) ps
-
--- the end line after these places
-abbrev pub end_text : List Place → List ℕ
-end_text ps = end_line (outputs_of is_reply ps) (outputs_of is_send ps) (outputs_of is_drop ps)
-
--- the line of the event after these places: the agent line is the first, and each client has a line
-abbrev pub event_number : Config → List Place → ℕ
-event_number config ps = length config.clients + 2 + length ps
-
--- the lines of what goes out at a place, which comes after these
-abbrev pub place_text : Config → List Place → Place → List ℕ
-place_text config ps p = flat_map (output_line (event_number config ps)) p.outputs
-
--- the text of further events
-abbrev pub text_after : Config → List Place → List Event → List ℕ
-text_after config ps [] = end_text ps
-text_after config ps (e ∷ es) =
-    place_text config ps (place config ps e) ++ text_after config (place config ps e ∷ ps) es
-
-abbrev pub transcript_text : Config → List Event → List ℕ
-transcript_text config events = text_after config [] events
-
--- A text without lines has no settings, and prints the end line alone.
-abbrev pub text_of_lines : List (List ℕ) → Option (List ℕ)
-text_of_lines [] = Some (end_text [])
-text_of_lines (line ∷ lines) = option_map (λ x. transcript_text x.0 x.1) (read_transcript (line ∷ lines))
-
--- what a transcript prints; None where the text isn't one
-abbrev pub text_of : List ℕ → Option (List ℕ)
-text_of text = text_of_lines (lines_of text)

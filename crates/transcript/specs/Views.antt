@@ -1,22 +1,22 @@
 -- What is borrowed, without where it lies in memory.
-use Rattle.std.specs.Prelude.{ℕ, List, [], ◌∷◌, Option, Some, None}
-use Rattle.transcript.specs.declared.agent.AgentWords.{AgentWords}
-use Rattle.transcript.specs.declared.client.ClientWords.{ClientWords}
-use Rattle.transcript.specs.Words.{split}
+use Rattle.std.specs.Prelude.{ℕ, List, map, Option}
+use Rattle.std.specs.Borrow.{Bor}
+use Rattle.std.specs.Option.{option_copied}
+use Rattle.agent_config.specs.declared.client.Client.{Client}
+use Rattle.agent_config.specs.declared.config.Config.{Config}
+use Rattle.transcript.specs.Lines.{client_by, settings_by}
+use Rattle.transcript.specs.declared.settings.AgentWords.{AgentWords}
+use Rattle.transcript.specs.declared.settings.ClientWords.{ClientWords}
 
--- the pieces that are left, where the octets after a separator are
-abbrev pub pieces_left : ℕ → Option (List ℕ) → List (List ℕ)
-pieces_left separator None = []
-pieces_left separator (Some rest) = split separator rest
+-- the octets of each word
+abbrev pub plain : List (Bor (List ℕ)) → List (List ℕ)
+plain words = map (λ w. w.now) words
 
--- the words after `agent`
-abbrev pub agent_words : AgentWords → List (List ℕ)
-agent_words w =
-    w.host.now ∷ w.realm.now ∷ w.home_realm.now ∷ w.address.now ∷ w.boot.now ∷ w.retention.now
-    ∷ w.capacity.now ∷ w.backlog.now ∷ w.watchdog.now ∷ []
+abbrev pub settings_told : AgentWords → Option Config
+settings_told w =
+    settings_by w.host.now w.realm.now w.home_realm.now w.address.now w.boot.now w.retention.now w.capacity.now
+    w.backlog.now w.watchdog.now (option_copied w.patience)
 
--- the words after `client`
-abbrev pub client_words : ClientWords → List (List ℕ)
-client_words w =
-    w.name.now ∷ w.address.now ∷ w.secret.now ∷ w.origin_host.now ∷ w.origin_realm.now ∷ w.seal.now
-    ∷ w.keys.now ∷ w.nas.now ∷ []
+abbrev pub client_told : ClientWords → Option Client
+client_told w =
+    client_by w.name.now w.address.now w.secret.now w.origin_host.now w.origin_realm.now w.seal.now w.keys.now w.nas.now

@@ -2,31 +2,26 @@
 use Rattle.std.specs.Prelude.{ℕ, Bool, true, false, ◌==◌, nat_le, not, ◌&&◌, ◌||◌, List, [], ◌∷◌, length, codes, slice_index, Option, Some, None, if◌then◌else◌}
 use Rattle.std.specs.Result.{result_ok}
 use Rattle.std.specs.Char.{is_ascii_digit}
-use Rattle.std.specs.List.{list_all}
+use Rattle.std.specs.List.{list_all, slice_split}
 use Rattle.std.specs.Str.{bytes_eq}
 use Rattle.std.specs.Str.Parse.{digits_value}
 use Rattle.hex.specs.Hex.{decode_of}
 use Rattle.agent_config.specs.Values.{address_in}
 
--- an octet in front of pieces: a separator ends an empty piece, another octet joins the first piece
+-- an octet in front of lines: 0a ends an empty one, another octet joins the first
 abbrev pub in_front : Bool → ℕ → List (List ℕ) → List (List ℕ)
-in_front true x pieces = [] ∷ pieces
+in_front true x lines = [] ∷ lines
 in_front false x [] = (x ∷ []) ∷ []
-in_front false x (piece ∷ pieces) = (x ∷ piece) ∷ pieces
-
--- the pieces between separators: at least one, and empty ones are kept
-abbrev pub split : ℕ → List ℕ → List (List ℕ)
-split separator [] = [] ∷ []
-split separator (x ∷ xs) = in_front (x == separator) x (split separator xs)
+in_front false x (line ∷ lines) = (x ∷ line) ∷ lines
 
 -- the lines of a text: each ends by the octet 0a, and the last one may end with the text
 abbrev pub lines_of : List ℕ → List (List ℕ)
 lines_of [] = []
 lines_of (x ∷ xs) = in_front (x == 10) x (lines_of xs)
 
--- the words of a line are separated by one space; a line of more than 140,000 octets has none
+-- the words of a line are separated by one space
 abbrev pub words_of : List ℕ → List (List ℕ)
-words_of line = if nat_le (length line) 140000 then split 32 line else []
+words_of line = slice_split (λ c. c == 32) line
 
 -- the second step, where the first gave a value
 infixl 10 ◌>>=◌
@@ -64,4 +59,4 @@ addresses_of (piece ∷ pieces) = do
 
 -- addresses separated by ',', or '-' for none
 abbrev pub addresses_word : List ℕ → Option (List ℕ)
-addresses_word word = if bytes_eq word (codes "-") then Some [] else addresses_of (split 44 word)
+addresses_word word = if bytes_eq word (codes "-") then Some [] else addresses_of (slice_split (λ c. c == 44) word)

@@ -3,7 +3,7 @@
 ghost use Rattle.std.specs.Prelude.{◌≡◌, ◌+◌, ◌<◌, ◌≤◌, [], length, take, drop, Ok, Err, Some, None, IfSome, IfNone, IfOk, false};
 ghost use Rattle.wire_core.specs.Counts.{Counts};
 ghost use Rattle.wire_core.specs.Source.{Consumes, IsAtEnd};
-ghost use Rattle.transcript.specs.Streams.{Refills};
+ghost use Rattle.transcript.specs.Streams.{Refills, most_octets};
 ghost use Rattle.transcript.specs.declared.intake.TakeFault.TheVariants.{Read};
 
 use std::alloc::Global;
@@ -71,7 +71,7 @@ impl Intake {
         requires { count ≤ length self.old.octets }
         ensures octets { self.new.octets ≡ drop count self.old.octets }
         ensures passed { self.new.passed ≡ self.old.passed + count }
-        ensures few { self.new.passed ≤ 1099511627776 }
+        ensures within { self.new.passed + length self.new.octets ≤ most_octets }
     {
         self.start += count;
         self.passed += count as u64;
@@ -81,6 +81,7 @@ impl Intake {
     pub(crate) fn refill<S: Source>(&mut self, source: &mut S) -> Result<bool, TakeFault>
         requires { self.old.octets ≡ [] }
         ensures refills { Refills result (S.left source.old) (S.left source.new) self.old self.new }
+        ensures within { self.new.passed + length self.new.octets ≤ most_octets }
         ensures counts_ends { Counts (result ≡ Ok false) (S.ends source.old) (S.ends source.new) }
         ensures counts_faults { Counts (result ≡ Err Read) (S.faults source.old) (S.faults source.new) }
     {

@@ -1,13 +1,10 @@
-//! A law of transcripts, for all texts.
+//! Laws of transcripts, for all lines.
 
-ghost use Rattle.transcript.specs.Run.{RunPrintsText, RunStopsFirst};
+ghost use Rattle.transcript.specs.Run.{LinesCanFollow};
 
-/// Line by line a transcript prints its text, and no other text is gone through to its end.
-pub fn run_prints_text()
-    ensures { RunPrintsText }
-{}
-
-/// A run stops at the first line with which the text is no transcript.
-pub fn run_stops_first()
-    ensures { RunStopsFirst }
-{}
+/// A line that was read can be followed, and the next one then too.
+pub fn lines_can_follow()
+    ensures { LinesCanFollow }
+{
+    agent_config::client_keeps_limits();
+}

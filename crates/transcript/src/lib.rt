@@ -1,29 +1,28 @@
 //! The text form of what comes in and what goes out: lines of words (profile).
 #![tactic(auto)]
 
-mod agent;
-mod client;
-mod event;
+mod happening;
 mod intake;
+mod kind;
 mod laws;
 mod line;
 mod line_fault;
 mod lines;
-mod pieces;
+mod link_stream;
+mod position;
 mod printing;
 mod raw_lines;
 mod reader;
+mod settings;
 mod word_fault;
 mod words;
 
-pub use agent::read_agent;
-pub use client::read_client;
-pub use event::read_event;
-pub use laws::{run_prints_text, run_stops_first};
+pub use laws::lines_can_follow;
 pub use line::{Inputs, Line};
 pub use line_fault::LineFault;
 pub use lines::Lines;
 pub use printing::{print, print_end};
+pub use raw_lines::{RawFault, RawLine, RawLines};
 pub use reader::LineReader;
 
 #[cfg(test)]

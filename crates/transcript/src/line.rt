@@ -1,6 +1,6 @@
 //! The lines of a transcript as values.
 
-ghost use Rattle.std.specs.Prelude.{◌≡◌, [], ◌∷◌, length, IfOk};
+ghost use Rattle.std.specs.Prelude.{◌≡◌, [], ◌∷◌, ◌++◌, length, IfOk, OnOk, OnErr};
 
 use agent_config::{Client, Config};
 use agent_core::Input;
@@ -24,13 +24,31 @@ impl Model for Inputs {
 }
 
 impl Inputs {
+    /// No input.
+    pub(crate) fn new(alloc: Global) -> Inputs
+        ensures { result ≡ [] }
+    {
+        Inputs {
+            inputs: Vec::new(alloc),
+        }
+    }
+
+    /// Puts an input at the end. An `Err` changes nothing.
+    pub(crate) fn push(&mut self, input: Input) -> Result<(), NoMemory>
+        ensures ok { OnOk result (self.new ≡ self.old ++ input ∷ []) }
+        ensures err { OnErr result (self.new ≡ self.old) }
+    {
+        self.inputs.push(input)?;
+        Ok(())
+    }
+
     /// This input alone.
     pub(crate) fn one(alloc: Global, input: Input) -> Result<Inputs, NoMemory>
         ensures { IfOk result (λ i. i ≡ input ∷ []) }
     {
-        let mut inputs = Vec::new(alloc);
+        let mut inputs = Inputs::new(alloc);
         inputs.push(input)?;
-        Ok(Inputs { inputs })
+        Ok(inputs)
     }
 
     /// How many inputs there are.
@@ -61,7 +79,7 @@ pub enum Line {
         number: u64,
         client: Client,
     },
-    /// What comes in at a moment, in milliseconds.
+    /// What comes in at a moment, in milliseconds. A `link` line that ends no message is no input.
     Event {
         number: u64,
         moment: u64,

@@ -7,7 +7,9 @@ use wire_core::NoMemory;
 pub enum LineFault {
     /// The source failed.
     Read,
-    /// The line with this number, counted from 1, may not stand where it stands.
+    /// The line with this number, counted from 1, may not stand where it stands. The reason is 1 where it has more
+    /// than 140,000 octets, 2 where its count of words and its fixed words are those of no line that may stand there,
+    /// 3 where a word isn't of its kind or not within its limits, and 4 where a client's address came before.
     Bad { line: u64, reason: u32 },
     /// The source has more than 2^40 octets.
     Long,

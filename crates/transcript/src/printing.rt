@@ -108,7 +108,6 @@ fn reason_name(reason: Reason) -> &'static str
         Reason::BadMessage => "BadMessage",
         Reason::WrongPhase => "WrongPhase",
         Reason::Unmatched => "Unmatched",
-        Reason::NotYet => "NotYet",
     }
 }
 

@@ -2,7 +2,7 @@
 
 ghost use Rattle.std.specs.Prelude.{◌≡◌, ◌+◌, ◌≤◌, ◌==◌, [], length, take, position, Ok, Err, IfOk, IfErr, OnOk};
 ghost use Rattle.wire_core.specs.Counts.{Counts};
-ghost use Rattle.transcript.specs.Streams.{Cuts, IsFirstPiece, IsUnended, SourceEnded, TakesLine, TakesNone, rest_of};
+ghost use Rattle.transcript.specs.Streams.{Cuts, IsFirstPiece, IsUnended, SourceEnded, TakesLine, TakesNone, most_octets, rest_of};
 ghost use Rattle.transcript.specs.declared.raw_lines.RawFault.TheVariants.{Read};
 
 use crate::intake::{Intake, TakeFault};
@@ -15,7 +15,7 @@ const LONGEST_LINE: usize = 140_000;
 
 /// Why there is no next line.
 #[derive(Clone, Copy, Debug, PartialEq, Eq)]
-pub(crate) enum RawFault {
+pub enum RawFault {
     /// The source failed.
     Read,
     /// The source has more octets than may be taken of one.
@@ -27,7 +27,7 @@ pub(crate) enum RawFault {
 
 /// How the next line ends.
 #[derive(Clone, Copy, Debug, PartialEq, Eq)]
-pub(crate) enum RawLine {
+pub enum RawLine {
     /// By the octet 0a.
     Line,
     /// With the source.
@@ -79,25 +79,25 @@ fn first_piece(octets: &[u8]) -> (&[u8], bool)
 
 /// What was taken of a source, cut into lines.
 #[derive(Debug, Drop)]
-pub(crate) struct RawLines {
+pub struct RawLines {
     intake: Intake,
     line: Vec<u8>,
 }
 
 impl Model for RawLines {
-    ghost use Rattle.std.specs.Prelude.{◌≤◌};
-    ghost use Rattle.transcript.specs.Streams.{Cutting};
+    ghost use Rattle.std.specs.Prelude.{◌+◌, ◌≤◌, length};
+    ghost use Rattle.transcript.specs.Streams.{Cutting, most_octets};
 
     ghost Value = { Cutting };
 
     ghost view = { λ r. record { line = r.line.items; held = r.intake } };
 
-    ghost invariant = { λ r. r.intake.passed ≤ 1099511627776 };
+    ghost invariant = { λ r. r.intake.passed + length r.intake.octets ≤ most_octets };
 }
 
 impl RawLines {
     /// Nothing is taken yet.
-    pub(crate) fn new(alloc: Global) -> Result<RawLines, NoMemory>
+    pub fn new(alloc: Global) -> Result<RawLines, NoMemory>
         ensures { IfOk result (λ r. (r.held.octets ≡ []) × (r.held.passed ≡ 0)) }
     {
         Ok(RawLines {
@@ -107,7 +107,7 @@ impl RawLines {
     }
 
     /// The line that was cut last, without its end.
-    pub(crate) fn line(&self) -> &[u8]
+    pub fn line(&self) -> &[u8]
         ensures { result.now ≡ self.now.line }
     {
         &self.line
@@ -116,7 +116,7 @@ impl RawLines {
     /// Moves what is held to the present line, up to the octet that ends it: whether there is one.
     fn cut(&mut self) -> Result<bool, RawFault>
         ensures cuts { Cuts result self.old self.new }
-        ensures few { self.new.held.passed ≤ 1099511627776 }
+        ensures within { self.new.held.passed + length self.new.held.octets ≤ most_octets }
         ensures grows { self.old.held.passed ≤ self.new.held.passed }
         ensures short { OnOk result (length self.new.line ≤ 140000) }
     {
@@ -131,11 +131,11 @@ impl RawLines {
     }
 
     /// Takes the next line of the source.
-    pub(crate) fn next_line<S: Source>(&mut self, source: &mut S) -> Result<RawLine, RawFault>
+    pub fn next_line<S: Source>(&mut self, source: &mut S) -> Result<RawLine, RawFault>
         ensures line { IfOk result (λ line. TakesLine line (rest_of self.old (S.left source.old)) (rest_of self.new (S.left source.new)) self.old self.new) }
         ensures unended { IfOk result (λ line. IsUnended self.new.line) }
         ensures short { OnOk result (length self.new.line ≤ 140000) }
-        ensures few { self.new.held.passed ≤ 1099511627776 }
+        ensures within { self.new.held.passed + length self.new.held.octets ≤ most_octets }
         ensures grows { self.old.held.passed ≤ self.new.held.passed }
         ensures fault { IfErr result (λ fault. TakesNone fault (rest_of self.old (S.left source.old)) (S.left source.new) self.old self.new) }
         ensures counts_ends { Counts (SourceEnded result) (S.ends source.old) (S.ends source.new) }

@@ -1,7 +1,5 @@
 //! Why words can't be read.
 
-ghost use Rattle.transcript.specs.Reads.{IsOrNone};
-
 use std::alloc::AllocFailed;
 use wire_core::NoMemory;
 
@@ -32,16 +30,5 @@ impl<T: Drop> From<AllocFailed<T>> for WordFault {
 
     fn from(_e: AllocFailed<T>) -> WordFault {
         WordFault::NoMemory
-    }
-}
-
-/// What was read, or None where the words have another form.
-pub(crate) fn or_none<T>(read: Result<T, WordFault>) -> Result<Option<T>, NoMemory>
-    ensures { IsOrNone read result }
-{
-    match read {
-        Ok(value) => Ok(Some(value)),
-        Err(WordFault::Bad) => Ok(None),
-        Err(WordFault::NoMemory) => Err(NoMemory),
     }
 }

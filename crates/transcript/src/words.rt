@@ -1,19 +1,33 @@
 //! What a word stands for.
 
-ghost use Rattle.std.specs.Prelude.{◌≡◌, ◌≤◌, ◌<◌, length, IsTrue, IfOk};
+ghost use Rattle.std.specs.Prelude.{◌≡◌, ◌==◌, ◌≤◌, ◌<◌, length, IsTrue, IfOk};
 ghost use Rattle.std.specs.Char.{is_ascii_digit};
-ghost use Rattle.std.specs.List.{list_all};
+ghost use Rattle.std.specs.List.{list_all, slice_split};
 ghost use Rattle.agent_config.specs.Values.{address_in};
 ghost use Rattle.transcript.specs.Words as words;
 ghost use Rattle.transcript.specs.Reads.{Reads};
+ghost use Rattle.transcript.specs.Views.{plain};
 
-use crate::pieces::Pieces;
 use crate::word_fault::WordFault;
 use agent_config::AddressList;
 use hex::FromHexError;
 use std::alloc::Global;
 use std::str;
-use wire_core::Octets;
+use wire_core::{NoMemory, Octets};
+
+/// The words of a line: at least one, and empty ones are kept.
+pub(crate) fn words_of(alloc: Global, line: &[u8]) -> Result<Vec<&[u8]>, NoMemory>
+    ensures { IfOk result (λ found. plain found.items ≡ words.words_of line.now) }
+{
+    Ok(line.split(|c| *c == b' ').collect(alloc)?)
+}
+
+/// What stands between the commas of a word.
+fn listed_in(alloc: Global, word: &[u8]) -> Result<Vec<&[u8]>, NoMemory>
+    ensures { IfOk result (λ found. plain found.items ≡ slice_split (λ c. c == 44) word.now) }
+{
+    Ok(word.split(|c| *c == b',').collect(alloc)?)
+}
 
 fn all_digits(word: &[u8]) -> bool
     ensures { result ≡ list_all is_ascii_digit word.now }
@@ -102,12 +116,12 @@ pub(crate) fn read_choice(word: &[u8], on: &[u8], off: &[u8]) -> Result<bool, Wo
     }
 }
 
-/// Addresses separated by `,`.
-fn read_each(alloc: Global, word: &[u8]) -> Result<AddressList, WordFault>
-    ensures { Reads result (words.addresses_of (words.split 44 word.now)) }
+/// An address in each of these pieces.
+fn read_each(alloc: Global, pieces: &[&[u8]]) -> Result<AddressList, WordFault>
+    ensures { Reads result (words.addresses_of (plain pieces.now)) }
 {
     let mut addresses = Vec::new(alloc);
-    for piece in Pieces::new(word, b',') {
+    for piece in pieces {
         addresses.push(read_address(piece)?)?;
     }
     Ok(AddressList::from_vec(addresses))
@@ -120,5 +134,6 @@ pub(crate) fn read_addresses(alloc: Global, word: &[u8]) -> Result<AddressList, 
     if word == b"-".as_slice() {
         return Ok(AddressList::from_vec(Vec::new(alloc)));
     }
-    read_each(alloc, word)
+    let pieces = listed_in(alloc, word)?;
+    read_each(alloc, &pieces)
 }

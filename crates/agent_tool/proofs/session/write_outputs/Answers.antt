@@ -6,7 +6,7 @@ use Rattle.std.proofs.lemmas.Option.{slice_get_read}
 use Rattle.wire_core.specs.Sink.{Appends, AppendsPrefix}
 use Rattle.wire_core.proofs.SinkLaws.{AppendsPrefix-append, AppendsPrefix-front, AppendsPrefix-whole}
 use Rattle.transcript.specs.Text.{output_line}
-use Rattle.agent_tool.proofs.Sessions.{lines-cut}
+use Rattle.agent_tool.proofs.SessionLemmas.{lines-cut}
 use Rattle.agent_tool.proofs.session.write_outputs.Goals as goal
 
 pub returns-in-Err-clause-part : goal.returns-in-Err-clause-part

@@ -1,8 +1,8 @@
 -- What was put is the list of the request.
-use Rattle.std.proofs.Common.{ap, ◌∙◌, arith}
+use Rattle.std.proofs.Common.{ap, subst, ◌∙◌, arith}
 use Rattle.session_carrier.specs.Route.{route_view}
 use Rattle.diameter_avp.specs.Avps.{avps_text}
-use Rattle.diameter_message.specs.Message.{message_text}
+use Rattle.diameter_message.specs.Message.{IsMessage, message_text}
 use Rattle.diameter_message.specs.Writer.{MessageWriterParts, with_avps}
 use Rattle.diameter_message.proofs.RoomLemmas.{list_length-begun}
 use Rattle.translation.specs.Heads.{auth_head}
@@ -15,10 +15,17 @@ put_auth_head-requires-clause-empty c = omega (arith, list_length-begun _ _ c.in
 pub put_pieces-requires-clause-few : goal.put_pieces-requires-clause-few
 put_pieces-requires-clause-few c = omega (arith, list_length-begun _ _ c.in_ok-writer.ensures, c.in_ok-put_auth_head.ensures.length)
 
-pub returns : goal.returns
+pub returns-clause-text : goal.returns-clause-text
 unfolding eap_image
-returns c =
+returns-clause-text c =
     let begun = c.in_ok-writer.ensures in
     let headed = c.in_ok-put_auth_head.ensures.list ∙ ap (λ w. with_avps w (auth_head 5 c.args.client.now c.args.packet.now (route_view c.args.route.now))) begun in
     let whole = c.in_ok-put_pieces.ensures ∙ ap (λ w. with_avps w (pieces c.args.packet.now)) headed in
     c.finish.ensures.text ∙ ap (λ (w : MessageWriterParts). message_text w.header (avps_text w.avps.list)) whole
+
+pub returns-clause-message : goal.returns-clause-message
+returns-clause-message c =
+    let begun = c.in_ok-writer.ensures in
+    let headed = c.in_ok-put_auth_head.ensures.list ∙ ap (λ w. with_avps w (auth_head 5 c.args.client.now c.args.packet.now (route_view c.args.route.now))) begun in
+    let whole = c.in_ok-put_pieces.ensures ∙ ap (λ w. with_avps w (pieces c.args.packet.now)) headed in
+    subst (λ (w : MessageWriterParts). IsMessage c.finish.result w.header (avps_text w.avps.list)) whole c.finish.ensures.message

@@ -8,7 +8,7 @@ pub returns-in_err-cut-clause-fault : goal.returns-in_err-cut-clause-fault
 returns-in_err-cut-clause-fault g c =
     let p = err_from_is_err_and c.from_residual.result c.from_residual.ensures.1 in
     let kept = c.loop-self.invariant in
-    rw (p.1, p.2) (cut-fault _ _ _ c.args.self.now c.loop-self.self c.cut.new.self kept.taken kept.unended c.in_err-cut.ensures.cuts)
+    rw (p.1, p.2) (cut-fault _ _ _ c.args.self.now c.loop-self.self c.cut.new.self kept.taken kept.unended kept.passed kept.within c.in_err-cut.ensures.cuts)
 
 pub returns-in_err-refill-clause-fault : goal.returns-in_err-refill-clause-fault
 returns-in_err-refill-clause-fault g c =

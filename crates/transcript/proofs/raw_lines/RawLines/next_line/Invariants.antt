@@ -1,6 +1,6 @@
-use Rattle.std.proofs.Common.{◌≡◌, ◌+◌, ◌-◌, length}
+use Rattle.std.proofs.Common.{◌≡◌, ◌+◌, ◌-◌, ◌≤◌, length}
 use Rattle.wire_core.specs.Source.{Consumes}
-use Rattle.transcript.specs.Streams.{IsUnended, rest_of}
+use Rattle.transcript.specs.Streams.{IsUnended, most_octets, rest_of}
 use Rattle.transcript.proofs.raw_lines.RawLines.next_line.Given as goal
 
 abbrev pub invariant-loop-self : goal.invariant-loop-self
@@ -8,6 +8,7 @@ invariant-loop-self g l = record {
   taken : Consumes (rest_of l.fn.self (g.S.Source.left l.fn.source)) (rest_of l.self (g.S.Source.left l.source)) l.self.line;
   unended : IsUnended l.self.line;
   passed : l.self.held.passed ≡ l.fn.self.held.passed + length l.self.line;
+  within : l.self.held.passed + length l.self.held.octets ≤ most_octets;
   faults : g.S.Source.faults l.source ≡ g.S.Source.faults l.fn.source;
   ends : g.S.Source.ends l.source ≡ g.S.Source.ends l.fn.source;
 }

@@ -1,0 +1,5 @@
+use Rattle.agent_core.proofs.LawOfReplies as lemmas
+use Rattle.agent_core.proofs.laws.replies_are_the_same.Goals as goal
+
+pub returns : goal.returns
+returns c = lemmas.same

@@ -1,0 +1,5 @@
+use Rattle.agent_core.proofs.LawOfKeys as lemmas
+use Rattle.agent_core.proofs.laws.requests_of_one_key_are_apart.Goals as goal
+
+pub returns : goal.returns
+returns c = lemmas.apart

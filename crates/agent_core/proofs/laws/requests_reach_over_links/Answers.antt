@@ -1,0 +1,5 @@
+use Rattle.agent_core.proofs.LawOfReach as lemmas
+use Rattle.agent_core.proofs.laws.requests_reach_over_links.Goals as goal
+
+pub returns : goal.returns
+returns c = lemmas.reach

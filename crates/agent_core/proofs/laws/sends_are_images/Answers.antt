@@ -1,0 +1,5 @@
+use Rattle.agent_core.proofs.LawOfImages as lemmas
+use Rattle.agent_core.proofs.laws.sends_are_images.Goals as goal
+
+pub returns : goal.returns
+returns c = lemmas.image

@@ -1,0 +1,26 @@
+-- [LinkAt]: what is known of the link to the home server (profile).
+use Rattle.std.specs.Prelude.{ℕ, ◌%◌, Option, None}
+use Rattle.peer_machine.specs.declared.Phase.{Phase}
+use Rattle.peer_machine.specs.declared.Phase.TheVariants.{Closed}
+use Rattle.peer_machine.specs.declared.words.LinkState.{LinkState}
+
+-- its phase, how many links began, when something was last heard, when a watchdog request was sent that nothing came after,
+-- and when the agent asked to disconnect
+pub record LinkAt : Type 0 where
+  pub phase : Phase
+  pub number : ℕ
+  pub heard : ℕ
+  pub asked : Option ℕ
+  pub leave : ℕ
+
+-- none began
+abbrev pub no_link : LinkAt
+no_link = record { phase = Closed; number = 0; heard = 0; asked = None; leave = 0 }
+
+-- the same with how many requests the link sent, and without
+abbrev pub with_requests : LinkAt → ℕ → LinkState
+with_requests l base =
+    record { phase = l.phase; number = l.number; heard = l.heard; asked = l.asked; leave = l.leave; requests = base % 2147483648 }
+
+abbrev pub without_requests : LinkState → LinkAt
+without_requests l = record { phase = l.phase; number = l.number; heard = l.heard; asked = l.asked; leave = l.leave }

@@ -1,0 +1,10 @@
+use Rattle.std.proofs.Common.{◌∙◌, sym}
+use Rattle.pending_table.specs.Stores.{waits}
+use Rattle.pending_table.proofs.Dropping.{live_left}
+use Rattle.pending_table.proofs.stores.Stores.purge_waiting.Goals as goal
+
+pub returns-clause-live : goal.returns-clause-live
+returns-clause-live c =
+    let t = c.loop-self.self in
+    let inv = c.loop-self.invariant in
+    sym (live_left c.args.self.now t c.args.moment (waits t) inv.1.patience inv.1.retention inv.0.aged (sym c.is_first_waiting_dead.ensures ∙ c.loop-self-test.false)) ∙ inv.2

@@ -1,0 +1,35 @@
+-- The words of an agent line by their places.
+use Rattle.std.proofs.Common.{◌≡◌, ℕ, ◌<◌, ◌≤◌, List, [], ◌∷◌, length, drop, None, Bor, slice_index_or, refl, arith}
+use Rattle.transcript.specs.Lines.{first_of, settings_by, settings_of}
+use Rattle.transcript.specs.Views.{plain}
+
+pub too_few : (ws : List (Bor (List ℕ))) → length ws < 10 → settings_of (plain ws) ≡ None
+too_few [] few = refl
+too_few (a ∷ []) few = refl
+too_few (a ∷ b ∷ []) few = refl
+too_few (a ∷ b ∷ c ∷ []) few = refl
+too_few (a ∷ b ∷ c ∷ d ∷ []) few = refl
+too_few (a ∷ b ∷ c ∷ d ∷ e ∷ []) few = refl
+too_few (a ∷ b ∷ c ∷ d ∷ e ∷ f ∷ []) few = refl
+too_few (a ∷ b ∷ c ∷ d ∷ e ∷ f ∷ g ∷ []) few = refl
+too_few (a ∷ b ∷ c ∷ d ∷ e ∷ f ∷ g ∷ h ∷ []) few = refl
+too_few (a ∷ b ∷ c ∷ d ∷ e ∷ f ∷ g ∷ h ∷ i ∷ []) few = refl
+too_few (a ∷ b ∷ c ∷ d ∷ e ∷ f ∷ g ∷ h ∷ i ∷ j ∷ more) few = absurd (omega (arith, few))
+
+pub by_place : (ws : List (Bor (List ℕ))) (none : Bor (List ℕ)) → 10 ≤ length ws
+    → settings_of (plain ws)
+    ≡ settings_by (slice_index_or ws 1 none).now (slice_index_or ws 2 none).now (slice_index_or ws 3 none).now
+    (slice_index_or ws 4 none).now (slice_index_or ws 5 none).now (slice_index_or ws 6 none).now
+    (slice_index_or ws 7 none).now (slice_index_or ws 8 none).now (slice_index_or ws 9 none).now
+    (first_of (plain (drop 10 ws)))
+by_place [] none many = absurd (omega (arith, many))
+by_place (a ∷ []) none many = absurd (omega (arith, many))
+by_place (a ∷ b ∷ []) none many = absurd (omega (arith, many))
+by_place (a ∷ b ∷ c ∷ []) none many = absurd (omega (arith, many))
+by_place (a ∷ b ∷ c ∷ d ∷ []) none many = absurd (omega (arith, many))
+by_place (a ∷ b ∷ c ∷ d ∷ e ∷ []) none many = absurd (omega (arith, many))
+by_place (a ∷ b ∷ c ∷ d ∷ e ∷ f ∷ []) none many = absurd (omega (arith, many))
+by_place (a ∷ b ∷ c ∷ d ∷ e ∷ f ∷ g ∷ []) none many = absurd (omega (arith, many))
+by_place (a ∷ b ∷ c ∷ d ∷ e ∷ f ∷ g ∷ h ∷ []) none many = absurd (omega (arith, many))
+by_place (a ∷ b ∷ c ∷ d ∷ e ∷ f ∷ g ∷ h ∷ i ∷ []) none many = absurd (omega (arith, many))
+by_place (a ∷ b ∷ c ∷ d ∷ e ∷ f ∷ g ∷ h ∷ i ∷ j ∷ more) none many = refl
