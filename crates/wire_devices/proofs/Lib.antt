@@ -1,0 +1,3 @@
+mod ClockLaws
+mod LinkLaws
+pub mod TellingLaws

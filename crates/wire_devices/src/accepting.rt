@@ -1,0 +1,93 @@
+//! A dialer that is dialled: it accepts one connection.
+
+ghost use Rattle.std.specs.Prelude.{◌≡◌, IfOk};
+
+use crate::devices::Dialer;
+use crate::streams::{TcpIn, TcpOut, ends_of};
+use std::io::ErrorKind;
+use std::marker::Model;
+use std::net::{Ipv4Addr, Net, TcpListener, TcpStream};
+use std::{io, rt};
+
+/// A listener of std, of IPv4. It makes one link, from the first connection, for which it waits. Where it couldn't be
+/// opened each dial gives None.
+#[derive(Drop)]
+pub struct TcpAccepter<R> {
+    rt: R,
+    listener: Option<TcpListener>,
+    faults: u64,
+    row: u8,
+}
+
+impl<R> Model for TcpAccepter<R> {
+    ghost use Rattle.std.specs.Prelude.{◌≤◌};
+    ghost use Rattle.wire_devices.specs.Dialling.{Dials};
+
+    ghost Value = { Dials };
+
+    ghost view = { λ d. record { faults = d.faults; row = d.row } };
+
+    ghost invariant = { λ d. d.row ≤ 16 };
+}
+
+impl<R: Net<Listener = TcpListener, Stream = TcpStream>> TcpAccepter<R> {
+    /// A listener at this address and port, where it can be opened. Port 0 is one that the system chooses.
+    pub fn bind(rt: R, address: u32, port: u16) -> TcpAccepter<R>
+        ensures { result ≡ record { faults = 0; row = 0 } }
+    {
+        let listener = TcpListener::bind(&rt, (Ipv4Addr::from(address), port)).ok();
+        TcpAccepter::over(rt, listener)
+    }
+}
+
+impl<R> TcpAccepter<R> {
+    /// A listener that isn't opened.
+    pub fn closed(rt: R) -> TcpAccepter<R>
+        ensures { result ≡ record { faults = 0; row = 0 } }
+    {
+        TcpAccepter::over(rt, None)
+    }
+
+    fn over(rt: R, listener: Option<TcpListener>) -> TcpAccepter<R>
+        ensures { result ≡ record { faults = 0; row = 0 } }
+    {
+        TcpAccepter {
+            rt,
+            listener,
+            faults: 0,
+            row: 0,
+        }
+    }
+}
+
+impl<R: rt::Clock + Copy> Dialer for TcpAccepter<R> {
+    type In = TcpIn;
+
+    type Out = TcpOut<R>;
+
+    ghost told = { λ d. d };
+
+    fn dial(&mut self) -> Option<(TcpIn, TcpOut<R>)> {
+        match accept(self.rt, self.listener.take()) {
+            Ok(ends) => {
+                self.row = 0;
+                Some(ends)
+            }
+            Err(_) => {
+                self.faults = self.faults.saturating_add(1);
+                self.row = self.row.saturating_add(1).min(16);
+                None
+            }
+        }
+    }
+}
+
+fn accept<R: Copy>(rt: R, listener: Option<TcpListener>) -> io::Result<(TcpIn, TcpOut<R>)>
+    ensures { IfOk result (λ ends. (ends.0 ≡ record { faults = 0; ends = 0 }) × (ends.1 ≡ 0)) }
+{
+    let Some(listener) = listener else {
+        return Err(io::Error::from(ErrorKind::NotConnected));
+    };
+    let (stream, _) = listener.accept()?;
+    ends_of(rt, stream)
+}

@@ -1,0 +1,96 @@
+//! A dialer over std's stream.
+
+ghost use Rattle.std.specs.Prelude.{◌≡◌, IfOk};
+
+use crate::devices::Dialer;
+use crate::streams::{TcpIn, TcpOut, ends_of};
+use std::marker::Model;
+use std::net::{IpAddr, Ipv4Addr, Net, SocketAddr, TcpListener, TcpStream};
+use std::time::Duration;
+use std::{io, rt, thread};
+
+// How long a dial waits for an answer, in milliseconds.
+const PATIENCE: u64 = 8_000;
+
+// The least and the longest pause, in milliseconds.
+const SHORT_PAUSE: u64 = 100;
+
+const LONG_PAUSE: u64 = 8_000;
+
+/// Dials an IPv4 address and a port. It pauses after a dial that was refused: a tenth of a second at first, twice as long
+/// after each further one in a row, and at most 8 seconds.
+#[derive(Drop)]
+pub struct TcpDialer<R> {
+    rt: R,
+    address: u32,
+    port: u16,
+    // The pause after the next dial that is refused, in milliseconds.
+    pause: u64,
+    faults: u64,
+    row: u8,
+}
+
+impl<R> Model for TcpDialer<R> {
+    ghost use Rattle.std.specs.Prelude.{◌≤◌};
+    ghost use Rattle.wire_devices.specs.Dialling.{Dials};
+
+    ghost Value = { Dials };
+
+    ghost view = { λ d. record { faults = d.faults; row = d.row } };
+
+    ghost invariant = { λ d. d.row ≤ 16 };
+}
+
+impl<R> TcpDialer<R> {
+    /// A dialer that has dialled nobody yet.
+    pub fn new(rt: R, address: u32, port: u16) -> TcpDialer<R>
+        ensures { result ≡ record { faults = 0; row = 0 } }
+    {
+        TcpDialer {
+            rt,
+            address,
+            port,
+            pause: SHORT_PAUSE,
+            faults: 0,
+            row: 0,
+        }
+    }
+}
+
+impl<R: Net<Listener = TcpListener, Stream = TcpStream> + rt::Clock + Copy> Dialer
+    for TcpDialer<R> {
+    type In = TcpIn;
+
+    type Out = TcpOut<R>;
+
+    ghost told = { λ d. d };
+
+    fn dial(&mut self) -> Option<(TcpIn, TcpOut<R>)> {
+        match connect(self.rt, self.address, self.port) {
+            Ok(ends) => {
+                self.pause = SHORT_PAUSE;
+                self.row = 0;
+                Some(ends)
+            }
+            Err(_) => {
+                thread::sleep(&self.rt, Duration::from_millis(self.pause));
+                self.pause = self.pause.saturating_mul(2).min(LONG_PAUSE);
+                self.faults = self.faults.saturating_add(1);
+                self.row = self.row.saturating_add(1).min(16);
+                None
+            }
+        }
+    }
+}
+
+fn connect<R: Net<Listener = TcpListener, Stream = TcpStream> + Copy>(
+    rt: R,
+    address: u32,
+    port: u16,
+) -> io::Result<(TcpIn, TcpOut<R>)>
+    ensures { IfOk result (λ ends. (ends.0 ≡ record { faults = 0; ends = 0 }) × (ends.1 ≡ 0)) }
+{
+    let place = SocketAddr::new(IpAddr::V4(Ipv4Addr::from(address)), port);
+    let stream = TcpStream::connect_timeout(&rt, &place, Duration::from_millis(PATIENCE))?;
+    ends_of(rt, stream)
+}

@@ -1,0 +1,140 @@
+//! std's stream as the two ends of a link. They tell nothing of content.
+
+ghost use Rattle.std.specs.Prelude.{◌≡◌, None, length, IfOk};
+ghost use Rattle.wire_devices.specs.Links.{Within};
+ghost use Rattle.wire_devices.specs.Forms.{told_of_ends};
+
+use crate::devices::{LinkGot, LinkIn, LinkOut};
+use crate::udp::{LOOK, is_nothing};
+use std::io::{Read, Write};
+use std::marker::Model;
+use std::net::TcpStream;
+use std::time::Duration;
+use std::{io, rt, thread};
+use wire_core::Put;
+
+// How long a send may wait for the other side, in milliseconds.
+const PATIENCE: u64 = 8_000;
+
+// The least and the longest pause, in microseconds.
+const SHORT_PAUSE: u64 = 16;
+
+const LONG_PAUSE: u64 = 1_000;
+
+/// A stream of std that octets come from.
+#[derive(Drop)]
+pub struct TcpIn {
+    stream: TcpStream,
+    faults: u64,
+    ends: u64,
+}
+
+impl Model for TcpIn {
+    ghost use Rattle.wire_devices.specs.Forms.{EndCounts};
+
+    ghost Value = { EndCounts };
+
+    ghost view = { λ s. record { faults = s.faults; ends = s.ends } };
+}
+
+impl LinkIn for TcpIn {
+    ghost told = { told_of_ends };
+
+    fn receive(&mut self, buf: &mut [u8]) -> LinkGot {
+        match look(&mut self.stream, buf) {
+            LinkGot::Bytes(count) => LinkGot::Bytes(count),
+            LinkGot::Nothing => LinkGot::Nothing,
+            LinkGot::Ended => {
+                self.ends = self.ends.saturating_add(1);
+                LinkGot::Ended
+            }
+            LinkGot::Failed => {
+                self.faults = self.faults.saturating_add(1);
+                LinkGot::Failed
+            }
+        }
+    }
+}
+
+// One look at the stream.
+fn look(stream: &mut TcpStream, buf: &mut [u8]) -> LinkGot
+    ensures { Within result (length buf.new) }
+{
+    match stream.read(buf) {
+        Ok(count) => {
+            if count == 0 {
+                LinkGot::Ended
+            } else {
+                LinkGot::Bytes(count)
+            }
+        }
+        Err(e) => {
+            if is_nothing(e.kind()) {
+                LinkGot::Nothing
+            } else {
+                LinkGot::Failed
+            }
+        }
+    }
+}
+
+/// A stream of std that octets go to.
+#[derive(Drop)]
+pub struct TcpOut<R> {
+    rt: R,
+    stream: TcpStream,
+    // The next pause, in microseconds.
+    pause: u64,
+    faults: u64,
+}
+
+impl<R> Model for TcpOut<R> {
+    ghost use Rattle.std.specs.Prelude.{ℕ};
+
+    ghost Value = { ℕ };
+
+    ghost view = { λ s. s.faults };
+}
+
+impl<R: rt::Clock> LinkOut for TcpOut<R> {
+    ghost told = { λ n. record { handed = None; faults = n } };
+
+    fn send(&mut self, octets: &[u8]) -> Put {
+        self.pause = SHORT_PAUSE;
+        match self.stream.write_all(octets) {
+            Ok(()) => Put::Done,
+            Err(_) => {
+                self.faults = self.faults.saturating_add(1);
+                Put::Failed
+            }
+        }
+    }
+
+    /// Pauses, longer each time until something is sent, and at most a millisecond.
+    fn rest(&mut self) {
+        thread::sleep(&self.rt, Duration::from_micros(self.pause));
+        self.pause = self.pause.saturating_mul(2).min(LONG_PAUSE);
+    }
+}
+
+// The two ends of a stream, where it can be set up.
+pub(crate) fn ends_of<R: Copy>(rt: R, stream: TcpStream) -> io::Result<(TcpIn, TcpOut<R>)>
+    ensures { IfOk result (λ ends. (ends.0 ≡ record { faults = 0; ends = 0 }) × (ends.1 ≡ 0)) }
+{
+    stream.set_nodelay(true)?;
+    stream.set_read_timeout(Some(Duration::from_millis(LOOK)))?;
+    stream.set_write_timeout(Some(Duration::from_millis(PATIENCE)))?;
+    let other = stream.try_clone()?;
+    let link_in = TcpIn {
+        stream,
+        faults: 0,
+        ends: 0,
+    };
+    let link_out = TcpOut {
+        rt,
+        stream: other,
+        pause: SHORT_PAUSE,
+        faults: 0,
+    };
+    Ok((link_in, link_out))
+}

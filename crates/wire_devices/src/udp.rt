@@ -1,0 +1,165 @@
+//! std's socket for datagrams. It tells nothing of content: what the network gives and takes is trusted, and so are these
+//! few lines.
+
+ghost use Rattle.std.specs.Prelude.{◌≡◌, length};
+ghost use Rattle.wire_devices.specs.Forms.{told_of_counts};
+ghost use Rattle.wire_devices.specs.Sockets.{Fits};
+
+use crate::devices::{Datagrams, Took};
+use std::io;
+use std::io::ErrorKind;
+use std::marker::Model;
+use std::net::{IpAddr, Ipv4Addr, Net, UdpSocket};
+use std::time::Duration;
+use wire_core::Put;
+
+// How long a look waits at most, in milliseconds.
+pub(crate) const LOOK: u64 = 100;
+
+/// A socket of std, of IPv4. One that couldn't be opened fails at each call. A look waits a tenth of a second at most.
+#[derive(Drop)]
+pub struct UdpDatagrams {
+    socket: Option<UdpSocket>,
+    faults: u64,
+    row: u8,
+}
+
+impl Model for UdpDatagrams {
+    ghost use Rattle.std.specs.Prelude.{◌≤◌};
+    ghost use Rattle.wire_devices.specs.Dialling.{Dials};
+
+    ghost Value = { Dials };
+
+    ghost view = { λ s. record { faults = s.faults; row = s.row } };
+
+    ghost invariant = { λ s. s.row ≤ 16 };
+}
+
+impl UdpDatagrams {
+    /// A socket at this address and port, where it can be opened. Port 0 is one that the system chooses.
+    pub fn bind<R: Net>(net: &R, address: u32, port: u16) -> UdpDatagrams
+        ensures { result ≡ record { faults = 0; row = 0 } }
+    {
+        UdpDatagrams::over(socket_at(net, address, port).ok())
+    }
+
+    /// A socket that isn't opened.
+    pub fn closed() -> UdpDatagrams
+        ensures { result ≡ record { faults = 0; row = 0 } }
+    {
+        UdpDatagrams::over(None)
+    }
+
+    fn over(socket: Option<UdpSocket>) -> UdpDatagrams
+        ensures { result ≡ record { faults = 0; row = 0 } }
+    {
+        UdpDatagrams {
+            socket,
+            faults: 0,
+            row: 0,
+        }
+    }
+}
+
+impl Datagrams for UdpDatagrams {
+    ghost told = { told_of_counts };
+
+    fn receive(&mut self, buf: &mut [u8]) -> Took {
+        match look(&self.socket, buf) {
+            Took::From {
+                address,
+                port,
+                length,
+            } => {
+                self.row = 0;
+                Took::From {
+                    address,
+                    port,
+                    length,
+                }
+            }
+            Took::Nothing => {
+                self.row = 0;
+                Took::Nothing
+            }
+            Took::Failed => {
+                self.faults = self.faults.saturating_add(1);
+                self.row = self.row.saturating_add(1).min(16);
+                Took::Failed
+            }
+        }
+    }
+
+    fn send(&mut self, address: u32, port: u16, octets: &[u8]) -> Put {
+        if sends(&self.socket, address, port, octets) {
+            return Put::Done;
+        }
+        self.faults = self.faults.saturating_add(1);
+        Put::Failed
+    }
+
+    fn twin(&mut self) -> Option<UdpDatagrams> {
+        match twin_of(&self.socket) {
+            Some(twin) => Some(UdpDatagrams::over(Some(twin))),
+            None => {
+                self.faults = self.faults.saturating_add(1);
+                None
+            }
+        }
+    }
+}
+
+fn socket_at<R: Net>(net: &R, address: u32, port: u16) -> io::Result<UdpSocket> {
+    let socket = UdpSocket::bind(net, (Ipv4Addr::from(address), port))?;
+    socket.set_read_timeout(Some(Duration::from_millis(LOOK)))?;
+    Ok(socket)
+}
+
+// One look at the socket.
+fn look(socket: &Option<UdpSocket>, buf: &mut [u8]) -> Took
+    ensures { Fits result (length buf.new) }
+{
+    let Some(socket) = socket else {
+        return Took::Failed;
+    };
+    match socket.recv_from(buf) {
+        Ok((length, from)) => match from.ip() {
+            IpAddr::V4(ip) => Took::From {
+                address: u32::from(ip),
+                port: from.port(),
+                length,
+            },
+            IpAddr::V6(_) => Took::Failed,
+        },
+        Err(e) => {
+            if is_nothing(e.kind()) {
+                Took::Nothing
+            } else {
+                Took::Failed
+            }
+        }
+    }
+}
+
+// Another handle of the same socket.
+fn twin_of(socket: &Option<UdpSocket>) -> Option<UdpSocket> {
+    socket.as_ref()?.try_clone().ok()
+}
+
+// Whether the datagram was sent.
+fn sends(socket: &Option<UdpSocket>, address: u32, port: u16, octets: &[u8]) -> bool {
+    match socket {
+        Some(socket) => socket
+            .send_to(octets, (Ipv4Addr::from(address), port))
+            .is_ok(),
+        None => false,
+    }
+}
+
+// Whether a look that ended so found nothing: it waited for its time, or a signal cut it short.
+pub(crate) fn is_nothing(kind: ErrorKind) -> bool {
+    matches!(
+        kind,
+        ErrorKind::WouldBlock | ErrorKind::TimedOut | ErrorKind::Interrupted
+    )
+}
