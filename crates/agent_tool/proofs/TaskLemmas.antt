@@ -19,7 +19,7 @@ use Rattle.transcript.specs.declared.raw_lines.RawFault.TheVariants as raw
 use Rattle.transcript.specs.declared.raw_lines.RawLine.TheVariants.{Line, LastLine, End}
 use Rattle.transcript.proofs.LineLemmas.{lines-cut, lines-front, lines-last}
 use Rattle.agent_tool.specs.declared.status.Status.{Status}
-use Rattle.agent_tool.specs.declared.status.Status.TheVariants.{Done, Usage, BadTranscript, ReadFault, WriteFault, OutOfMemory, TooLong}
+use Rattle.agent_tool.specs.declared.status.Status.TheVariants.{Done, Usage, BadConfig, BadTranscript, ReadFault, WriteFault, OutOfMemory, TooLong}
 use Rattle.agent_tool.specs.Tasks.{Adds, AreLines, Closes, EndsBy, EndsCounts, Finishes, IsBad, IsTask, StatusOf, Task, WorksNot, WritesPart, ended_text}
 
 -- ---- lines and their octets
@@ -67,6 +67,7 @@ bad-counts : (task : Task) (status : Status) (lines : List (List ℕ)) (a a' b b
 bad-counts task (BadTranscript number reason) lines a a' b b' d d' bad = tt
 bad-counts task Done lines a a' b b' d d' bad = absurd bad
 bad-counts task Usage lines a a' b b' d d' bad = absurd bad
+bad-counts task (BadConfig fault) lines a a' b b' d d' bad = absurd bad
 bad-counts task ReadFault lines a a' b b' d d' bad = absurd bad
 bad-counts task WriteFault lines a a' b b' d d' bad = absurd bad
 bad-counts task OutOfMemory lines a a' b b' d d' bad = absurd bad
@@ -92,6 +93,7 @@ pub completes : (task : Task) (status : Status) (X : List ℕ) (left before now 
 completes task Done X left before now a a' b b' d d' begun ends counts sound short reads writes = inl refl
 completes task OutOfMemory X left before now a a' b b' d d' begun ends counts sound short reads writes = inr refl
 completes task Usage X left before now a a' b b' d d' begun ends counts sound short reads writes = absurd (begun refl)
+completes task (BadConfig fault) X left before now a a' b b' d d' begun ends counts sound short reads writes = absurd ends
 completes task (BadTranscript number reason) X left before now a a' b b' d d' begun ends counts sound short reads writes = absurd cc (sym sound ∙ ends.first)
 completes task ReadFault X left before now a a' b b' d d' begun ends counts sound short reads writes = absurd (reads counts)
 completes task WriteFault X left before now a a' b b' d d' begun ends counts sound short reads writes = absurd (writes counts)
@@ -108,6 +110,7 @@ finish-ok task WriteFault lines line text before then after adds wrote closes = 
 finish-ok task OutOfMemory lines line text before then after adds wrote closes =
     inr (text, adds, subst (λ w. AppendsPrefix before w text) (sym closes) (AppendsPrefix-whole wrote))
 finish-ok task Usage lines line text before then after adds wrote closes = absurd closes
+finish-ok task (BadConfig fault) lines line text before then after adds wrote closes = absurd closes
 finish-ok task (BadTranscript number reason) lines line text before then after adds wrote closes = absurd closes
 finish-ok task ReadFault lines line text before then after adds wrote closes = absurd closes
 finish-ok task TooLong lines line text before then after adds wrote closes = absurd closes
@@ -119,6 +122,7 @@ finish-err task OutOfMemory lines line before after works = works
 finish-err task (BadTranscript number reason) lines line before after works = works
 finish-err task Done lines line before after works = absurd works
 finish-err task Usage lines line before after works = absurd works
+finish-err task (BadConfig fault) lines line before after works = absurd works
 finish-err task ReadFault lines line before after works = absurd works
 finish-err task TooLong lines line before after works = absurd works
 
@@ -232,6 +236,7 @@ module _ (task : Task) (took : List (List ℕ) → Type 0) (law : IsTask task) w
           subst (WritesPart task X then before) (sym same_written)
           (part X old left then g new.held.octets (subst (λ r. Consumes r then new.held.octets) (sym same) (Held-last new then)))
       by Usage closes all ended short same = absurd closes
+      by (BadConfig fault) closes all ended short same = absurd closes
       by (BadTranscript line reason) closes all ended short same = absurd closes
       by ReadFault closes all ended short same = absurd closes
       by TooLong closes all ended short same = absurd closes
@@ -286,6 +291,7 @@ module _ (task : Task) (took : List (List ℕ) → Type 0) (law : IsTask task) w
       part-more X old left then g new.line ending text new.held.octets unended are (Consumes-append takes (Held-last new then)) adds wrote
   not-taken Done X old new left then after g ending more unended takes all are passed within works = absurd works
   not-taken Usage X old new left then after g ending more unended takes all are passed within works = absurd works
+  not-taken (BadConfig fault) X old new left then after g ending more unended takes all are passed within works = absurd works
   not-taken ReadFault X old new left then after g ending more unended takes all are passed within works = absurd works
   not-taken TooLong X old new left then after g ending more unended takes all are passed within works = absurd works
 
@@ -347,6 +353,7 @@ module _ (task : Task) (took : List (List ℕ) → Type 0) (law : IsTask task) w
       by (BadTranscript number reason) works all ended short not = not works
       by OutOfMemory works all ended short not = not works
       by Usage works all ended short not = not works
+      by (BadConfig fault) works all ended short not = not works
       by ReadFault works all ended short not = not works
       by TooLong works all ended short not = not works
 
@@ -402,6 +409,7 @@ module _ (task : Task) (took : List (List ℕ) → Type 0) (law : IsTask task) w
           }
       by Done l bad others all few taken = absurd bad
       by Usage l bad others all few taken = absurd bad
+      by (BadConfig fault) l bad others all few taken = absurd bad
       by ReadFault l bad others all few taken = absurd bad
       by WriteFault l bad others all few taken = absurd bad
       by OutOfMemory l bad others all few taken = absurd bad

@@ -10,7 +10,7 @@ use Rattle.transcript.specs.declared.raw_lines.RawFault.{RawFault}
 use Rattle.transcript.specs.declared.raw_lines.RawFault.TheVariants as raw
 use Rattle.transcript.specs.Words.{lines_of}
 use Rattle.agent_tool.specs.declared.status.Status.{Status}
-use Rattle.agent_tool.specs.declared.status.Status.TheVariants.{Done, Usage, BadTranscript, ReadFault, WriteFault, OutOfMemory, TooLong}
+use Rattle.agent_tool.specs.declared.status.Status.TheVariants.{Done, Usage, BadConfig, BadTranscript, ReadFault, WriteFault, OutOfMemory, TooLong}
 
 -- what a command makes of lines: which is the first bad one, what those before it print, and what stands after all lines
 pub record Task : Type 0 where
@@ -139,6 +139,7 @@ pub record EndsPart (task : Task) (input : List ℕ) (left before now : Option (
 abbrev pub EndsBy : Task → Status → List ℕ → Option (List ℕ) → Option (List ℕ) → Option (List ℕ) → Type 0
 EndsBy task Done input left before now = Whole task input left before now
 EndsBy task Usage input left before now = ⊥
+EndsBy task (BadConfig fault) input left before now = ⊥
 EndsBy task (BadTranscript line reason) input left before now =
     Stops task (record { line = line; reason = reason }) input left before now
 EndsBy task ReadFault input left before now = BreaksOff task input left before now
@@ -157,6 +158,7 @@ StatusOf raw.NoMemory took task status = status ≡ OutOfMemory
 -- the counts that rose, by the status: the ends and faults of the source, and the faults of the sink
 abbrev pub EndsCounts : Status → ℕ → ℕ → ℕ → ℕ → ℕ → ℕ → Type 0
 EndsCounts Done ends ends' reads reads' writes writes' = Rose ends ends'
+EndsCounts (BadConfig fault) ends ends' reads reads' writes writes' = Rose ends ends'
 EndsCounts ReadFault ends ends' reads reads' writes writes' = Rose reads reads'
 EndsCounts WriteFault ends ends' reads reads' writes writes' = Rose writes writes'
 EndsCounts status ends ends' reads reads' writes writes' = Unit {0}

@@ -1,15 +1,28 @@
-//! Runs the commands of the agent: `agent replay` reads a transcript from stdin and writes what the agent sends to
-//! stdout. Where the status isn't 0, its name stands on stderr.
+//! Runs the commands of the agent over stdin and stdout: `agent replay` prints what the agent sends for a transcript,
+//! `agent check` settings as lines of a transcript, `agent show` what packets and messages hold, `agent generate` a
+//! transcript of logins, and `agent measure` the end line of its replay. Where the status isn't 0, its name stands on
+//! stderr.
 #![tactic(auto)]
 
 mod agent;
+mod check;
+mod command;
+mod generate;
+mod measure;
 mod replay;
 mod session;
+mod show;
 mod status;
+mod whole_input;
 mod work;
 
 pub use agent::agent;
+pub use check::check;
+use command::{Command, command_of};
+pub use generate::generate;
+pub use measure::measure;
 pub use replay::replay;
+pub use show::show;
 pub use status::Status;
 use std::hash::RandomState;
 use std::process::ExitCode;
@@ -18,17 +31,31 @@ use wire_core::{ReaderSource, WriterSink};
 
 const USAGE: &str = "\
 usage: agent replay < TRANSCRIPT
+       agent check < SETTINGS
+       agent show < LINES
+       agent generate LOGINS SEED
+       agent measure LOGINS SEED
        agent --help
        agent --version
 ";
 
 const HELP: &str = "
-Reads a transcript: a line of settings, lines of clients, and lines of events, each with its moment in
-milliseconds. Prints what the agent sends for each event, after the number of its line, and at last how many
+replay reads a transcript: a line of settings, lines of clients, and lines of events, each with its moment in
+milliseconds. It prints what the agent sends for each event, after the number of its line, and at last how many
 replies, messages and drops there were.
 
-exit statuses: 0 done, 1 other words, 3 a line that may not stand where it stands, 4 the input failed,
-5 the output failed, 9 no memory, 12 an input of more than 2^40 octets, 14 no random octets
+check reads settings, a TOML document of at most 2^20 octets, and prints them as lines of a transcript, or says which
+key is wrong: of the client of this number, or of the top table, which is 0.
+
+show reads lines 'radius HEX' and 'diameter HEX', and prints each packet with its attributes and each message with
+its AVPs, a line for each, or what is wrong with them.
+
+generate writes a transcript of 1 to 1000000 logins of one client, some of them repeated, and of their answers. SEED,
+below 2^32, decides which requests come again, and which answers refuse. measure replays that transcript, line by line
+as it is made, and prints its end line alone.
+
+exit statuses: 0 done, 1 other words, 2 settings with a fault, 3 a line that may not stand where it stands,
+4 the input failed, 5 the output failed, 9 no memory, 12 an input that is too long, 14 no random octets
 ";
 
 /// The words after the program's name.
@@ -48,29 +75,32 @@ fn status_without_words(error: &io::Error) -> Status {
     }
 }
 
-/// What was wanted in place of a bad line.
-fn wanted(line: u64, reason: u32) -> &'static str {
+/// What was wanted in place of a bad line of the command's input.
+fn wanted(command: Option<Command>, line: u64, reason: u32) -> &'static str {
     match reason {
         1 => "expected at most 140000 octets",
-        2 => {
-            if line == 1 {
-                "expected an agent line"
-            } else {
-                "expected an event line, or a client line before all events"
+        2 => match command {
+            Some(Command::Show) => "expected 'radius HEX' or 'diameter HEX'",
+            _ => {
+                if line == 1 {
+                    "expected an agent line"
+                } else {
+                    "expected an event line, or a client line before all events"
+                }
             }
-        }
+        },
         3 => "a word isn't of its kind or not within its limits",
         _ => "another client has this address",
     }
 }
 
-/// Says on stderr how a run ended that wasn't done, and gives the status to exit with.
-fn end(rt: &HostRuntime, status: Status) -> ExitCode {
+/// Says on stderr how a run of the command ended that wasn't done, and gives the status to exit with.
+fn end(rt: &HostRuntime, command: Option<Command>, status: Status) -> ExitCode {
     let _ = match status {
         Status::Done => Ok(()),
         Status::Usage => eprint!(rt; "agent: {status}\n{USAGE}"),
         Status::BadTranscript { line, reason } => {
-            let wanted = wanted(line, reason);
+            let wanted = wanted(command, line, reason);
             eprintln!(rt; "agent: {status} ({wanted})")
         }
         _ => eprintln!(rt; "agent: {status}"),
@@ -82,14 +112,14 @@ fn end(rt: &HostRuntime, status: Status) -> ExitCode {
 fn tell(rt: &HostRuntime, text: &str, more: &str) -> ExitCode {
     match print!(rt; "{text}{more}") {
         Ok(()) => ExitCode::SUCCESS,
-        Err(_) => end(rt, Status::WriteFault),
+        Err(_) => end(rt, None, Status::WriteFault),
     }
 }
 
 fn main(rt: HostRuntime) -> ExitCode {
     let words = match words_after_name(&rt) {
         Ok(words) => words,
-        Err(error) => return end(&rt, status_without_words(&error)),
+        Err(error) => return end(&rt, None, status_without_words(&error)),
     };
     if let [word] = words.as_slice() {
         match word.as_str() {
@@ -111,7 +141,7 @@ fn main(rt: HostRuntime) -> ExitCode {
         &mut input,
         &mut output,
     );
-    end(&rt, status)
+    end(&rt, command_of(words.as_slice()), status)
 }
 
 #[cfg(test)]

@@ -239,13 +239,16 @@ impl Session {
         ensures begins { (stage : Stage) → IsAt self.old stage → OnOk result (IsAt self.new (begun stage)) }
         ensures memory { IfErr result (λ status. status ≡ Status.OutOfMemory) }
     {
-        if let Some(config) = self.config.take() {
-            let Ok(core) = Core::new(alloc, self.random, config) else {
-                return Err(Status::OutOfMemory);
-            };
-            self.core = Some(core);
+        match self.config.take() {
+            None => Ok(()),
+            Some(config) => match Core::new(alloc, self.random, config) {
+                Ok(core) => {
+                    self.core = Some(core);
+                    Ok(())
+                }
+                Err(_) => Err(Status::OutOfMemory),
+            },
         }
-        Ok(())
     }
 
     /// Runs the inputs of an event line.

@@ -1,6 +1,7 @@
-//! Transcripts from outside, over memory.
+//! Transcripts, packets and settings from outside, over memory.
 
-use crate::{Status, agent, replay};
+use crate::{Status, agent, check, generate, measure, replay, show};
+use agent_config::ConfigFault;
 use std::alloc::Global;
 use std::hash::RandomState;
 use std::process::Abort;
@@ -128,6 +129,102 @@ fn ends_before(rt: HostRuntime) -> Result<(), Fail> {
     Ok(())
 }
 
+// A packet, octets that are none, and a line of another name.
+const PACKETS: &str = "\
+radius 01050026000102030405060708090a0b0c0d0e0f01066e656d6f20066e617331050600000003
+radius 0105
+tacacs 0105
+";
+
+const PACKETS_TEXT: &str = "\
+radius 1 5 38
+attribute 1 6e656d6f
+attribute 32 6e617331
+attribute 5 00000003
+fault 1 Short
+";
+
+#[test]
+fn shows_until_a_bad_line(rt: HostRuntime) -> Result<(), Fail> {
+    let mut input = MemorySource::new(rt.alloc(), PACKETS.as_bytes(), 64, &[])?;
+    let mut output = MemorySink::new(rt.alloc(), 256, &[])?;
+    let status = show(rt.alloc(), &mut input, &mut output);
+    assert_eq!(&rt; status, Status::BadTranscript { line: 3, reason: 2 });
+    assert_eq!(&rt; output.as_slice(), PACKETS_TEXT.as_bytes());
+    Ok(())
+}
+
+const SETTINGS: &str = "\
+host = \"agent.example\"
+realm = \"example\"
+address = \"192.0.2.1\"
+boot = 7
+[[clients]]
+name = \"nas1\"
+address = \"192.168.1.16\"
+secret = \"xyzzy5461\"
+origin_host = \"nas1.example\"
+origin_realm = \"example\"
+";
+
+const SETTINGS_TEXT: &str = "\
+agent agent.example example example 192.0.2.1 7 30000 4096 4096 30000 30000
+client nas1 192.168.1.16 78797a7a7935343631 nas1.example example plain refuse -
+";
+
+// Reads of 100 octets each, of which the second one, or none, fails.
+#[test]
+fn checks_settings(rt: HostRuntime) -> Result<(), Fail> {
+    for (text, failing, status, written) in [
+        (SETTINGS, 9, Status::Done, SETTINGS_TEXT),
+        (SETTINGS, 1, Status::ReadFault, ""),
+        (
+            "host = ",
+            9,
+            Status::BadConfig {
+                fault: ConfigFault::NotToml,
+            },
+            "",
+        ),
+    ] {
+        let mut input = MemorySource::new(rt.alloc(), text.as_bytes(), 100, &[failing])?;
+        let mut output = MemorySink::new(rt.alloc(), 256, &[])?;
+        assert_eq!(&rt; check(rt.alloc(), &mut input, &mut output), status);
+        assert_eq!(&rt; output.as_slice(), written.as_bytes());
+    }
+    Ok(())
+}
+
+// The seed 1 draws 1015568748, 1586005467, 2165703038 and 3027450565, whose bits 16, 17 and 18 are 0 0 0, 0 0 0,
+// 0 1 1 and 1 1 0: so the third request comes again after its answer, and the fourth before it.
+#[test]
+fn measures_four(rt: HostRuntime) -> Result<(), Fail> {
+    let random = RandomState::new(&rt)?;
+    let mut output = MemorySink::new(rt.alloc(), 64, &[])?;
+    assert_eq!(&rt;
+        measure(rt.alloc(), random, 4, 1, &mut output),
+        Status::Done
+    );
+    assert_eq!(&rt; output.as_slice(), b"end 5 4 1\n".as_slice());
+    Ok(())
+}
+
+// What is generated can be replayed, and the end line is that of the measure.
+#[test]
+fn generates_what_can_be_replayed(rt: HostRuntime) -> Result<(), Fail> {
+    let random = RandomState::new(&rt)?;
+    let mut generated = MemorySink::new(rt.alloc(), 4_096, &[])?;
+    assert_eq!(&rt; generate(rt.alloc(), 4, 1, &mut generated), Status::Done);
+    let mut input = MemorySource::new(rt.alloc(), generated.as_slice(), 64, &[])?;
+    let mut output = MemorySink::new(rt.alloc(), 4_096, &[])?;
+    assert_eq!(&rt;
+        replay(rt.alloc(), random, &mut input, &mut output),
+        Status::Done
+    );
+    assert!(&rt; output.as_slice().ends_with(b"\nend 5 4 1\n"));
+    Ok(())
+}
+
 #[test]
 fn words_of_the_command(rt: HostRuntime) -> Result<(), Fail> {
     let random = RandomState::new(&rt)?;
@@ -152,6 +249,13 @@ fn statuses(rt: HostRuntime) -> Result<(), Fail> {
     for (status, number, name) in [
         (Status::Done, 0u8, "Done"),
         (Status::Usage, 1, "Usage"),
+        (
+            Status::BadConfig {
+                fault: ConfigFault::TwiceAddress { client: 2 },
+            },
+            2,
+            "BadConfig TwiceAddress 2",
+        ),
         (
             Status::BadTranscript { line: 3, reason: 2 },
             3,

@@ -2,12 +2,13 @@
 
 ghost use Rattle.std.specs.Prelude.{◌≡◌, ◌≢◌, ◌<◌, ◌≤◌, ◌∷◌, [], ◌++◌, List, ℕ, length, Some, None, Ok, Err, OnOk, IfErr};
 ghost use Rattle.wire_core.specs.Counts.{Rose};
+ghost use Rattle.wire_core.specs.Sink.{Appends, AppendsPrefix};
 ghost use Rattle.agent_tool.specs.Tasks.{Closes, EndsBy, EndsCounts, Finishes, IsBad, IsTask, StatusOf, Task, Works};
 
 use crate::status::Status;
 use std::alloc::Global;
 use transcript::{RawFault, RawLine, RawLines};
-use wire_core::{Sink, Source};
+use wire_core::{Put, Sink, Source};
 
 /// What a command does with each line of its input.
 pub(crate) trait Work {
@@ -40,6 +41,20 @@ pub(crate) trait Work {
     /// A bad line prints nothing, and what follows it changes nothing.
     fn is_task()
         ensures { IsTask task };
+}
+
+/// Writes this text after what was written before.
+pub(crate) fn write_text<K: Sink>(sink: &mut K, text: &[u8]) -> Result<(), Status>
+    ensures done { OnOk result (Appends (K.written sink.old) (K.written sink.new) text.now) }
+    ensures failed { IfErr result (λ status. (status ≡ Status.WriteFault)
+        × AppendsPrefix (K.written sink.old) (K.written sink.new) text.now) }
+    ensures fault { result ≡ Err Status.WriteFault → Rose (K.faults sink.old) (K.faults sink.new) }
+    ensures faults_stay { K.faults sink.old ≤ K.faults sink.new }
+{
+    match sink.write(text) {
+        Put::Done => Ok(()),
+        Put::Failed => Err(Status::WriteFault),
+    }
 }
 
 /// How the command ends where the next line can't be taken of the source.

@@ -23,10 +23,10 @@ shorter f m is = by f.shown f.left is
         omega (arith, begins.frame.least, ap length begins.text, length-append m (drop (length m) left))
     by (Some fault) left e = cc
 
-abbrev messages : List (List ℕ) → List Input
+abbrev pub messages : List (List ℕ) → List Input
 messages ms = map (λ m. Message m) ms
 
-messages-append : (xs ys : List (List ℕ)) → messages (xs ++ ys) ≡ messages xs ++ messages ys
+pub messages-append : (xs ys : List (List ℕ)) → messages (xs ++ ys) ≡ messages xs ++ messages ys
 messages-append [] ys = refl
 messages-append (x ∷ xs) ys = ap (λ r. Message x ∷ r) (messages-append xs ys)
 

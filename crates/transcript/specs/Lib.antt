@@ -1,3 +1,8 @@
+pub mod Cuts
+pub mod Generating
+pub mod Generator
+pub mod GeneratorLaws
+pub mod Grammar
 pub mod Inputs
 pub mod Kinds
 pub mod Lines
@@ -5,6 +10,8 @@ pub mod Positions
 pub mod Reading
 pub mod Reads
 pub mod Run
+pub mod SettingsText
+pub mod Show
 pub mod Streams
 pub mod Taking
 pub mod Text

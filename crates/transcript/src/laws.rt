@@ -1,6 +1,14 @@
 //! Laws of transcripts, for all lines.
 
+ghost use Rattle.transcript.specs.Cuts.{LinkLinesCanBeCut};
+ghost use Rattle.transcript.specs.GeneratorLaws.{GeneratedLinesAreSound};
+ghost use Rattle.transcript.specs.Grammar.{LinesHaveAGrammar};
 ghost use Rattle.transcript.specs.Run.{LinesCanFollow};
+
+/// No line of a generated transcript is bad.
+pub fn generated_lines_are_sound()
+    ensures { GeneratedLinesAreSound }
+{}
 
 /// A line that was read can be followed, and the next one then too.
 pub fn lines_can_follow()
@@ -8,3 +16,13 @@ pub fn lines_can_follow()
 {
     agent_config::client_keeps_limits();
 }
+
+/// The reader accepts exactly the lines of the grammar, and reads of each what it says.
+pub fn lines_have_a_grammar()
+    ensures { LinesHaveAGrammar }
+{}
+
+/// A `link` line may be cut in two of the same moment: the outputs are the same, and line numbers alone differ.
+pub fn link_lines_can_be_cut()
+    ensures { LinkLinesCanBeCut }
+{}

@@ -1,6 +1,8 @@
 //! The text form of what comes in and what goes out: lines of words (profile).
 #![tactic(auto)]
 
+mod generate_fault;
+mod generator;
 mod happening;
 mod intake;
 mod kind;
@@ -9,21 +11,33 @@ mod line;
 mod line_fault;
 mod lines;
 mod link_stream;
+mod login;
 mod position;
 mod printing;
 mod raw_lines;
 mod reader;
 mod settings;
+mod settings_printing;
+mod showing;
 mod word_fault;
 mod words;
 
-pub use laws::lines_can_follow;
+pub use generate_fault::GenerateFault;
+pub use generator::{Generator, generate};
+pub use laws::{
+    generated_lines_are_sound, lines_can_follow, lines_have_a_grammar, link_lines_can_be_cut,
+};
 pub use line::{Inputs, Line};
 pub use line_fault::LineFault;
 pub use lines::Lines;
 pub use printing::{print, print_end};
 pub use raw_lines::{RawFault, RawLine, RawLines};
 pub use reader::LineReader;
+pub use settings_printing::print_settings;
+pub use showing::{ShowFault, show_line};
+pub use words::number_in;
 
+#[cfg(test)]
+mod show_tests;
 #[cfg(test)]
 mod tests;

@@ -17,7 +17,7 @@ const DIGITS: &[u8; 16] = b"0123456789abcdef";
 
 /// Appends octets in hex.
 #[tactic(auto, unfolding(hex::specs::Hex::encode_with))]
-fn push_digits(text: &mut Vec<u8>, octets: &[u8]) -> Result<(), AllocError>
+pub(crate) fn push_digits(text: &mut Vec<u8>, octets: &[u8]) -> Result<(), AllocError>
     ensures { OnOk result (text.new.items ≡ text.old.items ++ encode_lower octets.now) }
 {
     for octet in octets {
@@ -28,7 +28,7 @@ fn push_digits(text: &mut Vec<u8>, octets: &[u8]) -> Result<(), AllocError>
 }
 
 /// A line whose last word is octets in hex, or `-` for none.
-fn with_hex(start: String, octets: &[u8]) -> Result<Octets, NoMemory>
+pub(crate) fn with_hex(start: String, octets: &[u8]) -> Result<Octets, NoMemory>
     ensures { IfOk result (λ o. o ≡ string_bytes start ++ text.hex_text octets.now ++ 10 ∷ []) }
 {
     let mut text = start.into_bytes();

@@ -1,6 +1,6 @@
 //! What a word stands for.
 
-ghost use Rattle.std.specs.Prelude.{◌≡◌, ◌==◌, ◌≤◌, ◌<◌, length, IsTrue, IfOk};
+ghost use Rattle.std.specs.Prelude.{◌≡◌, ◌==◌, ◌≤◌, ◌<◌, length, IsTrue, IfOk, IfSome};
 ghost use Rattle.std.specs.Char.{is_ascii_digit};
 ghost use Rattle.std.specs.List.{list_all, slice_split};
 ghost use Rattle.agent_config.specs.Values.{address_in};
@@ -49,20 +49,24 @@ fn value_of(numeral: &[u8]) -> Option<u64>
     str::from_utf8(numeral).ok()?.parse().ok()
 }
 
+/// The number that a word is: decimal, at most this limit, without a sign or zeros in front.
+pub fn number_in(word: &[u8], limit: u64) -> Option<u64>
+    ensures exact { result ≡ words.number_word limit word.now }
+    ensures small { IfSome result (λ n. n ≤ limit) }
+{
+    if !is_numeral(word) {
+        return None;
+    }
+    let number = value_of(word)?;
+    if number <= limit { Some(number) } else { None }
+}
+
 /// A decimal number up to a limit.
 pub(crate) fn read_number(word: &[u8], limit: u64) -> Result<u64, WordFault>
     ensures exact { Reads result (words.number_word limit word.now) }
     ensures small { IfOk result (λ n. n ≤ limit) }
 {
-    if !is_numeral(word) {
-        return Err(WordFault::Bad);
-    }
-    let number = value_of(word).ok_or(WordFault::Bad)?;
-    if number <= limit {
-        Ok(number)
-    } else {
-        Err(WordFault::Bad)
-    }
+    number_in(word, limit).ok_or(WordFault::Bad)
 }
 
 /// A decimal number below 2^16.

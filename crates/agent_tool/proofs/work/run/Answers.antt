@@ -2,6 +2,7 @@ use Rattle.std.proofs.Common.{◌≡◌, Err, Some, ap, subst, sym, ◌∙◌, r
 use Rattle.wire_core.specs.Counts.{one_more}
 use Rattle.wire_core.proofs.CountLaws.{Rose-one_more}
 use Rattle.agent_tool.proofs.TaskLemmas.{Goes, ends-close, ends-fault, ends-last, ends-line, nothing-done, status-begun, status-counts}
+use Rattle.transcript.specs.Streams.{rest_of}
 use Rattle.agent_tool.proofs.work.run.Goals as goal
 
 pub returns-in_default-clause-ends : goal.returns-in_default-clause-ends
@@ -36,7 +37,7 @@ returns-in-Ok-End-clause-ends g c = λ X told.
 pub returns-in-Err-clause-begun : goal.returns-in-Err-clause-begun
 returns-in-Err-clause-begun g c =
     let goes = c.loop-work.invariant.goes in
-    status-begun g.W.Work.task (g.W.Work.took c.loop-work.work) c.in-Err.fault c.fault_status.result goes.lines _ _ c.loop-work.lines c.next_line.new.self goes.taken c.in-Err.ensures.fault c.fault_status.ensures
+    status-begun g.W.Work.task (g.W.Work.took c.loop-work.work) c.in-Err.fault c.fault_status.result goes.lines (rest_of c.loop-work.lines (g.S.Source.left c.loop-work.input)) (g.S.Source.left c.next_line.new.source) c.loop-work.lines c.next_line.new.self goes.taken c.in-Err.ensures.fault c.fault_status.ensures
 
 pub returns-in-Err-clause-ends : goal.returns-in-Err-clause-ends
 returns-in-Err-clause-ends g c = λ X told.
@@ -47,5 +48,5 @@ pub returns-in-Err-clause-counts : goal.returns-in-Err-clause-counts
 returns-in-Err-clause-counts g c =
     let goes = c.loop-work.invariant.goes in
     let more = c.in-Err.ensures.counts_faults in
-    status-counts g.W.Work.task (g.W.Work.took c.loop-work.work) c.in-Err.fault c.fault_status.result goes.lines _ _ c.loop-work.lines c.next_line.new.self goes.taken c.in-Err.ensures.fault c.fault_status.ensures
+    status-counts g.W.Work.task (g.W.Work.took c.loop-work.work) c.in-Err.fault c.fault_status.result goes.lines (rest_of c.loop-work.lines (g.S.Source.left c.loop-work.input)) (g.S.Source.left c.next_line.new.source) c.loop-work.lines c.next_line.new.self goes.taken c.in-Err.ensures.fault c.fault_status.ensures
     _ _ _ _ _ _ (λ read. Rose-one_more _ _ (more.rises (ap (λ f. Err f) read) ∙ ap (λ n. one_more n) c.loop-work.invariant.reads))

@@ -1,0 +1,57 @@
+//! The command `check`.
+
+ghost use Rattle.std.specs.Prelude.{◌≡◌, ◌≢◌, ◌≤◌, ◌⊎◌, List, ℕ, Ok, Some, length, IfOk, IfErr};
+ghost use Rattle.wire_core.specs.Counts.{Rose};
+ghost use Rattle.agent_config.specs.declared.config.Config.{Config};
+ghost use Rattle.agent_config.specs.Settings.{settings_in};
+ghost use Rattle.transcript.specs.SettingsText.{settings_text};
+ghost use Rattle.agent_tool.specs.Checks.{ChecksBy, PrintsNot, most_settings};
+ghost use Rattle.agent_tool.specs.Tasks.{EndsCounts};
+
+use crate::status::Status;
+use crate::whole_input::take_whole;
+use crate::work::write_text;
+use agent_config::ConfigFault;
+use std::alloc::Global;
+use transcript::print_settings;
+use wire_core::{Octets, Sink, Source};
+
+/// The settings of a text as lines of a transcript.
+fn lines_of(alloc: Global, text: &[u8]) -> Result<Octets, Status>
+    ensures ok { IfOk result (λ lines. (config : Config) × (settings_in text.now ≡ Ok config) × (lines ≡ settings_text config)) }
+    ensures err { IfErr result (λ status. PrintsNot status text.now) }
+{
+    match agent_config::read(alloc, text) {
+        Ok(config) => match print_settings(alloc, &config) {
+            Ok(lines) => Ok(lines),
+            Err(_) => Err(Status::OutOfMemory),
+        },
+        Err(ConfigFault::NoMemory) => Err(Status::OutOfMemory),
+        Err(fault) => Err(Status::BadConfig { fault }),
+    }
+}
+
+/// Reads settings, a TOML document of at most 2^20 octets, and prints them as lines of a transcript.
+pub fn check<S: Source, K: Sink>(alloc: Global, input: &mut S, output: &mut K) -> Status
+    ensures begun { result ≢ Status.Usage }
+    ensures ends { (X : List ℕ) → S.left input.old ≡ Some X
+        → ChecksBy result X (S.left input.new) (K.written output.old) (K.written output.new) }
+    ensures counts { EndsCounts result (S.ends input.old) (S.ends input.new) (S.faults input.old) (S.faults input.new)
+        (K.faults output.old) (K.faults output.new) }
+    ensures complete { (X : List ℕ) (config : Config) → S.left input.old ≡ Some X → settings_in X ≡ Ok config → length X ≤ most_settings
+        → ¬ Rose (S.faults input.old) (S.faults input.new) → ¬ Rose (K.faults output.old) (K.faults output.new)
+        → (result ≡ Status.Done) ⊎ (result ≡ Status.OutOfMemory) }
+{
+    let text = match take_whole(alloc, input) {
+        Ok(text) => text,
+        Err(status) => return status,
+    };
+    let lines = match lines_of(alloc, text.as_slice()) {
+        Ok(lines) => lines,
+        Err(status) => return status,
+    };
+    match write_text(output, lines.as_slice()) {
+        Ok(()) => Status::Done,
+        Err(status) => status,
+    }
+}

@@ -1,0 +1,87 @@
+-- Lines that have the grammar, each shown part by part.
+use Rattle.std.proofs.Common.{◌<◌, [], ◌∷◌, codes, refl, lit≤}
+use Rattle.std.specs.Fmt.{digits}
+use Rattle.std.proofs.lemmas.List.Elements.{All-cons, All-nil}
+use Rattle.wire_core.specs.Numbers.{number}
+use Rattle.hex.specs.Hex.{encode_with}
+use Rattle.radius_packet.specs.declared.reasons.Via.TheVariants.{Auth}
+use Rattle.agent_core.specs.declared.events.Input.TheVariants.{Datagram, Ready}
+use Rattle.transcript.specs.Grammar.{IsEvent, IsLine, Lacks, Says}
+use Rattle.transcript.specs.Reading.{At}
+use Rattle.transcript.specs.declared.happening.Happening.TheVariants.{Input, Link}
+use Rattle.transcript.specs.declared.line.Line.TheVariants as line
+use Rattle.transcript.specs.declared.position.Section.TheVariants.{Settings, Events}
+use Rattle.transcript.proofs.GrammarJoinLemmas.{any-lacks}
+
+ready-line : IsLine (codes "0 ready") (codes "0" ∷ codes "ready" ∷ [])
+ready-line = record {
+  some = lit≤ tt;
+  spaceless = All-cons (Lacks 32) (codes "0") (codes "ready" ∷ []) (any-lacks 32 (codes "0") refl)
+      (All-cons (Lacks 32) (codes "ready") [] (any-lacks 32 (codes "ready") refl) (All-nil (Lacks 32)));
+  spelled = refl;
+}
+
+ready-event : IsEvent (codes "0" ∷ codes "ready" ∷ []) 0 (Input Ready)
+unfolding digits
+ready-event = record {
+  word = codes "0";
+  behind = codes "ready" ∷ [];
+  spelled = refl;
+  is_moment = (refl, lit≤ tt);
+  is_told = refl;
+}
+
+behind-agent : At
+behind-agent = record { section = Settings; addresses = []; stream = []; lines = 1 }
+
+-- the second line of a transcript without clients
+ready-says : Says behind-agent (codes "0 ready") (line.Event 2 0 (Ready ∷ []))
+    (record behind-agent { section = Events; lines = 2 })
+unfolding behind-agent
+ready-says = record {
+  short = lit≤ tt;
+  words = codes "0" ∷ codes "ready" ∷ [];
+  is_line = ready-line;
+  says = record { further = λ e. cc; told = Input Ready; is = ready-event; counts = refl; gives = refl; goes_on = refl };
+}
+
+link-event : IsEvent (codes "1100" ∷ codes "link" ∷ codes "0100aB" ∷ []) 1100 (Link (1 ∷ 0 ∷ 171 ∷ []))
+unfolding digits encode_with
+link-event = record {
+  word = codes "1100";
+  behind = codes "link" ∷ codes "0100aB" ∷ [];
+  spelled = refl;
+  is_moment = (refl, lit≤ tt);
+  is_told = (
+    codes "0100aB",
+    refl,
+    (
+      All-cons (λ x. x < 256) 1 (0 ∷ 171 ∷ []) (lit≤ tt)
+          (All-cons (λ x. x < 256) 0 (171 ∷ []) (lit≤ tt) (All-cons (λ x. x < 256) 171 [] (lit≤ tt) (All-nil (λ x. x < 256)))),
+      refl,
+    ),
+  );
+}
+
+auth-event : IsEvent (codes "1000" ∷ codes "auth" ∷ codes "192.168.1.16" ∷ codes "1812" ∷ codes "-" ∷ []) 1000
+    (Input (Datagram Auth 3232235792 1812 []))
+unfolding digits number
+auth-event = record {
+  word = codes "1000";
+  behind = codes "auth" ∷ codes "192.168.1.16" ∷ codes "1812" ∷ codes "-" ∷ [];
+  spelled = refl;
+  is_moment = (refl, lit≤ tt);
+  is_told = record {
+    address_word = codes "192.168.1.16";
+    port_word = codes "1812";
+    hex = codes "-";
+    spelled = refl;
+    is_address = (
+      192 ∷ 168 ∷ 1 ∷ 16 ∷ [],
+      record { a = 192; b = 168; c = 1; d = 16; fit = (lit≤ tt, lit≤ tt, lit≤ tt, lit≤ tt); value = refl; spelled = refl },
+      refl,
+    );
+    is_port = (refl, lit≤ tt);
+    is_hex = refl;
+  };
+}
