@@ -46,7 +46,7 @@ option-few None f = omega arith
 option-few (Some x) f = omega arith
 
 -- what the link says of itself
-said-few : (o : PeerOutput) → length (link_outputs o) ≤ 3
+pub said-few : (o : PeerOutput) → length (link_outputs o) ≤ 3
 said-few o =
     let a = option-few o.send Send in
     let b = option-few o.closed Closed in
@@ -98,7 +98,7 @@ reply-few : (key : Key) (o : Option (List ℕ)) → length (reply_outputs key o)
 reply-few key None = omega arith
 reply-few key (Some octets) = omega arith
 
-outcome-few : (key : Key) (o : Outcome) → length (outcome_outputs key o) ≤ 2
+pub outcome-few : (key : Key) (o : Outcome) → length (outcome_outputs key o) ≤ 2
 outcome-few key o =
     let reply = reply_outputs key o.reply in
     let follow = option_to_list (option_map Send o.follow) in
@@ -111,16 +111,16 @@ client-few : (S : Ledger) (message : MessageParts) (e : Entry) (client : Option 
 client-few S message e None = omega arith
 client-few S message e (Some client) = outcome-few (place_of e) (outcome e.kept.kind client e.kept message (kept_numbers S))
 
-unmatched-few : (S : Ledger) (message : MessageParts) (b : Bool) → length (if b then [] else Dropped reasons.Unmatched ∷ []) ≤ 2
-unmatched-few S message true = omega arith
-unmatched-few S message false = omega arith
+pub unmatched-few : (b : Bool) → length (if b then [] else Dropped reasons.Unmatched ∷ []) ≤ 2
+unmatched-few true = omega arith
+unmatched-few false = omega arith
 
 found-few : (S : Ledger) (message : MessageParts) (row : Option Row) → IsFew 2 (on_found S message row)
-found-few S message None = unmatched-few S message (message.header.command == 275)
+found-few S message None = unmatched-few (message.header.command == 275)
 found-few S message (Some row) =
     either-few (message.header.command == command_of row.1.kept.kind) _ _ 2
     (client-few S message row.1 (slice_get S.config.clients row.1.kept.client))
-    (unmatched-few S message (message.header.command == 275))
+    (unmatched-few (message.header.command == 275))
 
 message-few : (S : Ledger) (r : Result MessageParts MessageFault) → IsSteady S → IsFew 32771 (on_message S r)
 message-few S (Err fault) steady = omega arith

@@ -55,6 +55,7 @@ pub mod Observed
 pub mod Few
 pub mod LawPlaces
 pub mod LawOfRooms
+pub mod LawOfCounts
 pub mod LawOfKeys
 pub mod LawOfMatches
 pub mod LawOfReplies

@@ -1,5 +1,5 @@
 -- Laws of the rule about what goes out, for every history.
-use Rattle.std.specs.Prelude.{◌≡◌, ℕ, ◌+◌, ◌*◌, ◌%◌, ◌≤◌, Bool, true, false, bit_and, List, [], ◌∷◌, ◌++◌, length, filter, option_map, option_to_list, slice_get, Option, Some, None, Ok, IfSome, if◌then◌else◌}
+use Rattle.std.specs.Prelude.{◌≡◌, ℕ, ◌+◌, ◌*◌, ◌%◌, ◌≤◌, max, Bool, true, false, bit_and, List, [], ◌∷◌, ◌++◌, length, filter, option_map, option_to_list, slice_get, Option, Some, None, Ok, IfSome, if◌then◌else◌}
 use Rattle.std.specs.List.{AllByRecursion as Each, enumerate_from}
 use Rattle.diameter_message.specs.declared.header.Header.{Header}
 use Rattle.diameter_message.specs.Message.{parts_of}
@@ -12,7 +12,7 @@ use Rattle.agent_core.specs.declared.events.Output.{Output}
 use Rattle.agent_core.specs.declared.events.Output.TheVariants.{Send, Dropped}
 use Rattle.agent_core.specs.Settings.{end_number}
 use Rattle.agent_core.specs.Verdict.{Request, verdict}
-use Rattle.agent_core.specs.Places.{Event, Place, Taking, now, link, begins, opens, takings, rank, waiting, header_of, is_sent, is_application_request, is_base_request, is_first_request, used, outbox, serial}
+use Rattle.agent_core.specs.Places.{Event, Place, Taking, now, link, begins, is_serving, opens, takings, rank, waiting, header_of, is_sent, is_application_request, is_base_request, is_first_request, used, outbox, serial}
 use Rattle.agent_core.specs.Requests.{request_sent}
 use Rattle.agent_core.specs.History.{place, past, resends, next_numbers, outputs_after}
 use Rattle.agent_core.specs.LawsOfRequests.{IsMatchedOnce}
@@ -27,6 +27,17 @@ pub record LeavesRoom (config : Config) (ps : List Place) : Type 0 where
 
 abbrev pub RoomIsLeft : Type 0
 RoomIsLeft = (config : Config) (history : List Event) → InLimits config → LeavesRoom config (past config history)
+
+-- ---- Few
+
+-- how many can be sent again: all that wait, where the link doesn't serve yet
+abbrev pub most_resent : Config → List Place → ℕ → ℕ
+most_resent config ps m = if is_serving (link ps).phase then 0 else length (waiting config ps m)
+
+-- what goes out for one event is three things at most, and what waits is sent again where the link opens
+abbrev pub OutputsAreFew : Type 0
+OutputsAreFew = (config : Config) (history : List Event) (e : Event)
+    → length (outputs_after config history e) ≤ 3 + most_resent config (past config history) (max (now (past config history)) e.moment)
 
 -- ---- Image
 

@@ -109,10 +109,17 @@ on_datagram S (Ok request) = on_request S request (on_look request.key (table.to
 
 -- ---- the link
 
+-- whether this begins a link
 abbrev pub begins_by : LinkState → LinkEvent → Bool
 begins_by l Opens = may_begin l.phase l.number
 begins_by l Serves = may_begin l.phase l.number
 begins_by l event = false
+
+-- the same of an input
+abbrev pub begins_on : LinkState → Input → Bool
+begins_on l Up = may_begin l.phase l.number
+begins_on l Ready = may_begin l.phase l.number
+begins_on l input = false
 
 -- a count of the present link, which a new link begins anew
 abbrev pub count_before : Ledger → LinkEvent → ℕ → ℕ

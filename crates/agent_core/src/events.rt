@@ -82,7 +82,7 @@ impl Model for Outputs {
 
 impl Outputs {
     /// No output.
-    pub(crate) fn new(alloc: Global) -> Outputs
+    pub fn new(alloc: Global) -> Outputs
         ensures { result ≡ [] }
     {
         Outputs {
@@ -91,7 +91,7 @@ impl Outputs {
     }
 
     /// These outputs, in their order.
-    pub(crate) fn from_vec(outputs: Vec<Output>) -> Outputs
+    pub fn from_vec(outputs: Vec<Output>) -> Outputs
         ensures { result ≡ outputs.items }
     {
         Outputs { outputs }
@@ -111,5 +111,12 @@ impl Outputs {
         ensures { result.now ≡ self.now }
     {
         self.outputs.as_slice()
+    }
+
+    /// The outputs in order, each by value.
+    pub fn into_vec(self) -> Vec<Output>
+        ensures { result.items ≡ self }
+    {
+        self.outputs
     }
 }

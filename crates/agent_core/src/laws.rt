@@ -2,7 +2,7 @@
 
 ghost use Rattle.agent_core.specs.Laws.{PastGoesOn};
 ghost use Rattle.agent_core.specs.LawsOfRequests.{Apart, Fresh, Guarded, Once, OnlyToClients, Same, Settled};
-ghost use Rattle.agent_core.specs.LawsOfSends.{Image, Numbers, Quiet, Reach, RoomIsLeft};
+ghost use Rattle.agent_core.specs.LawsOfSends.{Image, Numbers, OutputsAreFew, Quiet, Reach, RoomIsLeft};
 
 /// A history with one more event has one more place.
 pub fn past_goes_on()
@@ -42,6 +42,11 @@ pub fn replies_go_to_clients()
 /// After each event there is room for what waits.
 pub fn room_is_left()
     ensures { RoomIsLeft }
+{}
+
+/// What goes out for one event is three things at most, and what waits is sent again where the link opens.
+pub fn outputs_are_few()
+    ensures { OutputsAreFew }
 {}
 
 /// The application requests that go out are images, the same again, and ends of sessions.

@@ -15,9 +15,10 @@ mod verdict;
 pub use core_step::Core;
 pub use events::{Input, Output, Outputs};
 pub use laws::{
-    acceptances_are_guarded, answers_settle, drops_are_quiet, fresh_sessions_differ, past_goes_on,
-    replies_are_the_same, replies_go_to_clients, requests_are_matched_once, requests_are_numbered,
-    requests_of_one_key_are_apart, requests_reach_over_links, room_is_left, sends_are_images,
+    acceptances_are_guarded, answers_settle, drops_are_quiet, fresh_sessions_differ,
+    outputs_are_few, past_goes_on, replies_are_the_same, replies_go_to_clients,
+    requests_are_matched_once, requests_are_numbered, requests_of_one_key_are_apart,
+    requests_reach_over_links, room_is_left, sends_are_images,
 };
 
 #[cfg(test)]

@@ -2,6 +2,7 @@
 
 ghost use Rattle.std.specs.Prelude.{◌≡◌, ◌≢◌, ◌+◌, ◌%◌, ◌≤◌, [], ◌++◌, All, IfOk, OnOk, OnErr, is_some, length, map, option_to_list, vec_len, vec_capacity, if◌then◌else◌};
 ghost use Rattle.pending_table.specs.Table as table;
+ghost use Rattle.peer_machine.specs.Rules as rules;
 ghost use Rattle.peer_machine.specs.Step.{HasCommand, event_of, message_in};
 ghost use Rattle.agent_core.specs.History as history;
 ghost use Rattle.agent_core.specs.Places as places;
@@ -59,14 +60,19 @@ fn opens(before: Phase, after: Phase) -> bool
 }
 
 impl Ledger {
+    /// Whether a link may begin.
+    pub(crate) fn may_begin(&self) -> bool
+        ensures { result ≡ rules.may_begin self.now.peer.link.phase self.now.peer.link.number }
+    {
+        matches!(self.peer.phase(), Phase::Closed) && self.peer.link() < u64::MAX
+    }
+
     /// Whether this input begins a link.
     fn begins(&self, input: PeerInput<'_>) -> bool
         ensures { result ≡ machine.begins_by self.now.peer.link (event_of input.entry) }
     {
         match input {
-            PeerInput::Up | PeerInput::Ready => {
-                matches!(self.peer.phase(), Phase::Closed) && self.peer.link() < u64::MAX
-            }
+            PeerInput::Up | PeerInput::Ready => self.may_begin(),
             PeerInput::Message(_)
             | PeerInput::Broken(_)
             | PeerInput::Down

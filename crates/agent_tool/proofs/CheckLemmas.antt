@@ -8,8 +8,8 @@ use Rattle.wire_core.specs.Sink.{Appends, AppendsPrefix}
 use Rattle.agent_config.specs.declared.config.Config.{Config}
 use Rattle.agent_config.specs.Settings.{settings_in}
 use Rattle.transcript.specs.SettingsText.{settings_text}
-use Rattle.agent_tool.specs.declared.status.Status.{Status}
-use Rattle.agent_tool.specs.declared.status.Status.TheVariants.{Done, Usage, BadConfig, BadTranscript, ReadFault, WriteFault, OutOfMemory, TooLong}
+use Rattle.agent_status.specs.declared.status.Status.{Status}
+use Rattle.agent_status.specs.declared.status.Status.TheVariants.{Done, Usage, BadConfig, BadTranscript, ReadFault, WriteFault, OutOfMemory, TooLong, LinkFault, PeerRefused, NoThread, DatagramFault, LinkEnded}
 use Rattle.agent_tool.specs.Checks.{ChecksBy, PrintsNot, TakenWhole, TakesNot, most_settings}
 use Rattle.agent_tool.specs.Tasks.{EndsCounts}
 
@@ -20,6 +20,11 @@ not-taken OutOfMemory X before left written told takes = (subst (λ b. TakesNot 
 not-taken TooLong X before left written told takes = (subst (λ b. TakesNot TooLong b left) told takes, refl)
 not-taken Done X before left written told takes = absurd takes
 not-taken Usage X before left written told takes = absurd takes
+not-taken LinkFault X before left written told takes = absurd takes
+not-taken (PeerRefused code) X before left written told takes = absurd takes
+not-taken NoThread X before left written told takes = absurd takes
+not-taken DatagramFault X before left written told takes = absurd takes
+not-taken (LinkEnded cause) X before left written told takes = absurd takes
 not-taken (BadConfig fault) X before left written told takes = absurd takes
 not-taken (BadTranscript number reason) X before left written told takes = absurd takes
 not-taken WriteFault X before left written told takes = absurd takes
@@ -42,6 +47,11 @@ not-printed status X text before left written told few takes ended prints = by s
     by OutOfMemory is = ((text, taken, few), refl)
     by Done is = absurd is
     by Usage is = absurd is
+    by LinkFault is = absurd is
+    by (PeerRefused code) is = absurd is
+    by NoThread is = absurd is
+    by DatagramFault is = absurd is
+    by (LinkEnded cause) is = absurd is
     by (BadTranscript number reason) is = absurd is
     by ReadFault is = absurd is
     by WriteFault is = absurd is
@@ -68,6 +78,11 @@ pub completes : (status : Status) (X : List ℕ) (config : Config) (left before 
 completes Done X config left before now a a' b b' d d' begun ends counts is short reads writes = inl refl
 completes OutOfMemory X config left before now a a' b b' d d' begun ends counts is short reads writes = inr refl
 completes Usage X config left before now a a' b b' d d' begun ends counts is short reads writes = absurd (begun refl)
+completes LinkFault X config left before now a a' b b' d d' begun ends counts is short reads writes = absurd ends.0
+completes (PeerRefused code) X config left before now a a' b b' d d' begun ends counts is short reads writes = absurd ends.0
+completes NoThread X config left before now a a' b b' d d' begun ends counts is short reads writes = absurd ends.0
+completes DatagramFault X config left before now a a' b b' d d' begun ends counts is short reads writes = absurd ends.0
+completes (LinkEnded cause) X config left before now a a' b b' d d' begun ends counts is short reads writes = absurd ends.0
 completes (BadConfig fault) X config left before now a a' b b' d d' begun (taken, bad, same) counts is short reads writes = cc (is, bad)
 completes (BadTranscript number reason) X config left before now a a' b b' d d' begun ends counts is short reads writes = absurd ends.0
 completes ReadFault X config left before now a a' b b' d d' begun ends counts is short reads writes = absurd (reads counts)

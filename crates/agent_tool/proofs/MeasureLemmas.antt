@@ -5,8 +5,8 @@ use Rattle.wire_core.specs.Counts.{Rose}
 use Rattle.transcript.specs.Reading.{Bad}
 use Rattle.agent_tool.proofs.ReplayLemmas.{is-task}
 use Rattle.agent_tool.specs.declared.replay.ReplayWork.{ReplayWork}
-use Rattle.agent_tool.specs.declared.status.Status.{Status}
-use Rattle.agent_tool.specs.declared.status.Status.TheVariants.{Done, Usage, BadConfig, BadTranscript, ReadFault, WriteFault, OutOfMemory, TooLong}
+use Rattle.agent_status.specs.declared.status.Status.{Status}
+use Rattle.agent_status.specs.declared.status.Status.TheVariants.{Done, Usage, BadConfig, BadTranscript, ReadFault, WriteFault, OutOfMemory, TooLong, LinkFault, PeerRefused, NoThread, DatagramFault, LinkEnded}
 use Rattle.agent_tool.specs.Generated.{ReplaysOn}
 use Rattle.agent_tool.specs.Replay.{Replays, replay_task}
 use Rattle.agent_tool.specs.Tasks.{WorksNot}
@@ -42,6 +42,11 @@ only-memory (BadTranscript number reason) work lines left rest line before now s
 only-memory WriteFault work lines left rest line before now sound r next rose works = absurd (omega (arith, rose refl))
 only-memory Done work lines left rest line before now sound r next rose works = absurd works
 only-memory Usage work lines left rest line before now sound r next rose works = absurd works
+only-memory LinkFault work lines left rest line before now sound r next rose works = absurd works
+only-memory (PeerRefused code) work lines left rest line before now sound r next rose works = absurd works
+only-memory NoThread work lines left rest line before now sound r next rose works = absurd works
+only-memory DatagramFault work lines left rest line before now sound r next rose works = absurd works
+only-memory (LinkEnded cause) work lines left rest line before now sound r next rose works = absurd works
 only-memory (BadConfig fault) work lines left rest line before now sound r next rose works = absurd works
 only-memory ReadFault work lines left rest line before now sound r next rose works = absurd works
 only-memory TooLong work lines left rest line before now sound r next rose works = absurd works

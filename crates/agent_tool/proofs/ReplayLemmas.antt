@@ -13,8 +13,8 @@ use Rattle.transcript.specs.declared.line_fault.LineFault.TheVariants as fault
 use Rattle.transcript.specs.declared.position.Position.{Position}
 use Rattle.transcript.specs.declared.reader.LineReader.{LineReader}
 use Rattle.agent_tool.specs.declared.replay.ReplayWork.{ReplayWork}
-use Rattle.agent_tool.specs.declared.status.Status.{Status}
-use Rattle.agent_tool.specs.declared.status.Status.TheVariants.{Done, Usage, BadConfig, BadTranscript, ReadFault, WriteFault, OutOfMemory, TooLong}
+use Rattle.agent_status.specs.declared.status.Status.{Status}
+use Rattle.agent_status.specs.declared.status.Status.TheVariants.{Done, Usage, BadConfig, BadTranscript, ReadFault, WriteFault, OutOfMemory, TooLong, LinkFault, PeerRefused, NoThread, DatagramFault, LinkEnded}
 use Rattle.agent_tool.specs.Replay.{Replays, place_after, replay_task, step_place}
 use Rattle.agent_tool.specs.Session as session
 use Rattle.agent_tool.specs.Session.{IsAt, IsFailure}
@@ -228,6 +228,11 @@ failed WriteFault lines octets said next before now is says part = (line_text (a
 failed OutOfMemory lines octets said next before now is says part = inr (line_text (at_stage lines) said, adds-text lines octets said next says, part)
 failed Done lines octets said next before now is says part = absurd is
 failed Usage lines octets said next before now is says part = absurd is
+failed LinkFault lines octets said next before now is says part = absurd is
+failed (PeerRefused code) lines octets said next before now is says part = absurd is
+failed NoThread lines octets said next before now is says part = absurd is
+failed DatagramFault lines octets said next before now is says part = absurd is
+failed (LinkEnded cause) lines octets said next before now is says part = absurd is
 failed (BadConfig fault) lines octets said next before now is says part = absurd is
 failed (BadTranscript number reason) lines octets said next before now is says part = absurd is
 failed ReadFault lines octets said next before now is says part = absurd is

@@ -23,7 +23,7 @@ use Rattle.transcript.specs.Run.{Running, Settings, Stage, event_at, follow, inp
 use Rattle.transcript.specs.declared.line.Line.TheVariants as line
 use Rattle.agent_tool.specs.declared.session.Counts.{Counts}
 use Rattle.agent_tool.specs.declared.session.Session.{Session}
-use Rattle.agent_tool.specs.declared.status.Status.{Status}
+use Rattle.agent_status.specs.declared.status.Status.{Status}
 use Rattle.agent_tool.specs.Session.{Follows, IsAt, RunsAt, RunsOn, begun, counted, counts_of}
 
 -- ---- one input

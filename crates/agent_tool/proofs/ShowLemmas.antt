@@ -7,8 +7,8 @@ use Rattle.transcript.specs.Reading.{Bad}
 use Rattle.transcript.specs.Show.{show_line, show_words}
 use Rattle.transcript.specs.Words.{words_of}
 use Rattle.agent_tool.specs.declared.show.ShowWork.{ShowWork}
-use Rattle.agent_tool.specs.declared.status.Status.{Status}
-use Rattle.agent_tool.specs.declared.status.Status.TheVariants.{Done, Usage, BadConfig, BadTranscript, ReadFault, WriteFault, OutOfMemory, TooLong}
+use Rattle.agent_status.specs.declared.status.Status.{Status}
+use Rattle.agent_status.specs.declared.status.Status.TheVariants.{Done, Usage, BadConfig, BadTranscript, ReadFault, WriteFault, OutOfMemory, TooLong, LinkFault, PeerRefused, NoThread, DatagramFault, LinkEnded}
 use Rattle.agent_tool.specs.Shown.{Shown, Shows, ShowsNot, count_after, show_task, shown_from, shown_on}
 use Rattle.agent_tool.specs.Tasks.{Adds, IsTask, WorksNot}
 
@@ -99,6 +99,11 @@ refused (BadTranscript number reason) lines line n work now shows next (same, is
 refused OutOfMemory lines line n work now shows next said = inl refl
 refused Done lines line n work now shows next said = absurd said
 refused Usage lines line n work now shows next said = absurd said
+refused LinkFault lines line n work now shows next said = absurd said
+refused (PeerRefused code) lines line n work now shows next said = absurd said
+refused NoThread lines line n work now shows next said = absurd said
+refused DatagramFault lines line n work now shows next said = absurd said
+refused (LinkEnded cause) lines line n work now shows next said = absurd said
 refused (BadConfig fault) lines line n work now shows next said = absurd said
 refused ReadFault lines line n work now shows next said = absurd said
 refused WriteFault lines line n work now shows next said = absurd said
@@ -112,6 +117,11 @@ unwritten (BadTranscript number reason) lines line text before now none is (same
 unwritten OutOfMemory lines line text before now none is (same, wrote) = cc
 unwritten Done lines line text before now none is (same, wrote) = cc
 unwritten Usage lines line text before now none is (same, wrote) = cc
+unwritten LinkFault lines line text before now none is (same, wrote) = cc
+unwritten (PeerRefused code) lines line text before now none is (same, wrote) = cc
+unwritten NoThread lines line text before now none is (same, wrote) = cc
+unwritten DatagramFault lines line text before now none is (same, wrote) = cc
+unwritten (LinkEnded cause) lines line text before now none is (same, wrote) = cc
 unwritten (BadConfig fault) lines line text before now none is (same, wrote) = cc
 unwritten ReadFault lines line text before now none is (same, wrote) = cc
 unwritten TooLong lines line text before now none is (same, wrote) = cc

@@ -18,8 +18,8 @@ use Rattle.transcript.specs.declared.raw_lines.RawFault.{RawFault}
 use Rattle.transcript.specs.declared.raw_lines.RawFault.TheVariants as raw
 use Rattle.transcript.specs.declared.raw_lines.RawLine.TheVariants.{Line, LastLine, End}
 use Rattle.transcript.proofs.LineLemmas.{lines-cut, lines-front, lines-last}
-use Rattle.agent_tool.specs.declared.status.Status.{Status}
-use Rattle.agent_tool.specs.declared.status.Status.TheVariants.{Done, Usage, BadConfig, BadTranscript, ReadFault, WriteFault, OutOfMemory, TooLong}
+use Rattle.agent_status.specs.declared.status.Status.{Status}
+use Rattle.agent_status.specs.declared.status.Status.TheVariants.{Done, Usage, BadConfig, BadTranscript, ReadFault, WriteFault, OutOfMemory, TooLong, LinkFault, PeerRefused, NoThread, DatagramFault, LinkEnded}
 use Rattle.agent_tool.specs.Tasks.{Adds, AreLines, Closes, EndsBy, EndsCounts, Finishes, IsBad, IsTask, StatusOf, Task, WorksNot, WritesPart, ended_text}
 
 -- ---- lines and their octets
@@ -67,6 +67,11 @@ bad-counts : (task : Task) (status : Status) (lines : List (List ℕ)) (a a' b b
 bad-counts task (BadTranscript number reason) lines a a' b b' d d' bad = tt
 bad-counts task Done lines a a' b b' d d' bad = absurd bad
 bad-counts task Usage lines a a' b b' d d' bad = absurd bad
+bad-counts task LinkFault lines a a' b b' d d' bad = absurd bad
+bad-counts task (PeerRefused code) lines a a' b b' d d' bad = absurd bad
+bad-counts task NoThread lines a a' b b' d d' bad = absurd bad
+bad-counts task DatagramFault lines a a' b b' d d' bad = absurd bad
+bad-counts task (LinkEnded cause) lines a a' b b' d d' bad = absurd bad
 bad-counts task (BadConfig fault) lines a a' b b' d d' bad = absurd bad
 bad-counts task ReadFault lines a a' b b' d d' bad = absurd bad
 bad-counts task WriteFault lines a a' b b' d d' bad = absurd bad
@@ -93,6 +98,11 @@ pub completes : (task : Task) (status : Status) (X : List ℕ) (left before now 
 completes task Done X left before now a a' b b' d d' begun ends counts sound short reads writes = inl refl
 completes task OutOfMemory X left before now a a' b b' d d' begun ends counts sound short reads writes = inr refl
 completes task Usage X left before now a a' b b' d d' begun ends counts sound short reads writes = absurd (begun refl)
+completes task LinkFault X left before now a a' b b' d d' begun ends counts sound short reads writes = absurd ends
+completes task (PeerRefused code) X left before now a a' b b' d d' begun ends counts sound short reads writes = absurd ends
+completes task NoThread X left before now a a' b b' d d' begun ends counts sound short reads writes = absurd ends
+completes task DatagramFault X left before now a a' b b' d d' begun ends counts sound short reads writes = absurd ends
+completes task (LinkEnded cause) X left before now a a' b b' d d' begun ends counts sound short reads writes = absurd ends
 completes task (BadConfig fault) X left before now a a' b b' d d' begun ends counts sound short reads writes = absurd ends
 completes task (BadTranscript number reason) X left before now a a' b b' d d' begun ends counts sound short reads writes = absurd cc (sym sound ∙ ends.first)
 completes task ReadFault X left before now a a' b b' d d' begun ends counts sound short reads writes = absurd (reads counts)
@@ -110,6 +120,11 @@ finish-ok task WriteFault lines line text before then after adds wrote closes = 
 finish-ok task OutOfMemory lines line text before then after adds wrote closes =
     inr (text, adds, subst (λ w. AppendsPrefix before w text) (sym closes) (AppendsPrefix-whole wrote))
 finish-ok task Usage lines line text before then after adds wrote closes = absurd closes
+finish-ok task LinkFault lines line text before then after adds wrote closes = absurd closes
+finish-ok task (PeerRefused code) lines line text before then after adds wrote closes = absurd closes
+finish-ok task NoThread lines line text before then after adds wrote closes = absurd closes
+finish-ok task DatagramFault lines line text before then after adds wrote closes = absurd closes
+finish-ok task (LinkEnded cause) lines line text before then after adds wrote closes = absurd closes
 finish-ok task (BadConfig fault) lines line text before then after adds wrote closes = absurd closes
 finish-ok task (BadTranscript number reason) lines line text before then after adds wrote closes = absurd closes
 finish-ok task ReadFault lines line text before then after adds wrote closes = absurd closes
@@ -122,6 +137,11 @@ finish-err task OutOfMemory lines line before after works = works
 finish-err task (BadTranscript number reason) lines line before after works = works
 finish-err task Done lines line before after works = absurd works
 finish-err task Usage lines line before after works = absurd works
+finish-err task LinkFault lines line before after works = absurd works
+finish-err task (PeerRefused code) lines line before after works = absurd works
+finish-err task NoThread lines line before after works = absurd works
+finish-err task DatagramFault lines line before after works = absurd works
+finish-err task (LinkEnded cause) lines line before after works = absurd works
 finish-err task (BadConfig fault) lines line before after works = absurd works
 finish-err task ReadFault lines line before after works = absurd works
 finish-err task TooLong lines line before after works = absurd works
@@ -236,6 +256,11 @@ module _ (task : Task) (took : List (List ℕ) → Type 0) (law : IsTask task) w
           subst (WritesPart task X then before) (sym same_written)
           (part X old left then g new.held.octets (subst (λ r. Consumes r then new.held.octets) (sym same) (Held-last new then)))
       by Usage closes all ended short same = absurd closes
+      by LinkFault closes all ended short same = absurd closes
+      by (PeerRefused code) closes all ended short same = absurd closes
+      by NoThread closes all ended short same = absurd closes
+      by DatagramFault closes all ended short same = absurd closes
+      by (LinkEnded cause) closes all ended short same = absurd closes
       by (BadConfig fault) closes all ended short same = absurd closes
       by (BadTranscript line reason) closes all ended short same = absurd closes
       by ReadFault closes all ended short same = absurd closes
@@ -291,6 +316,11 @@ module _ (task : Task) (took : List (List ℕ) → Type 0) (law : IsTask task) w
       part-more X old left then g new.line ending text new.held.octets unended are (Consumes-append takes (Held-last new then)) adds wrote
   not-taken Done X old new left then after g ending more unended takes all are passed within works = absurd works
   not-taken Usage X old new left then after g ending more unended takes all are passed within works = absurd works
+  not-taken LinkFault X old new left then after g ending more unended takes all are passed within works = absurd works
+  not-taken (PeerRefused code) X old new left then after g ending more unended takes all are passed within works = absurd works
+  not-taken NoThread X old new left then after g ending more unended takes all are passed within works = absurd works
+  not-taken DatagramFault X old new left then after g ending more unended takes all are passed within works = absurd works
+  not-taken (LinkEnded cause) X old new left then after g ending more unended takes all are passed within works = absurd works
   not-taken (BadConfig fault) X old new left then after g ending more unended takes all are passed within works = absurd works
   not-taken ReadFault X old new left then after g ending more unended takes all are passed within works = absurd works
   not-taken TooLong X old new left then after g ending more unended takes all are passed within works = absurd works
@@ -353,6 +383,11 @@ module _ (task : Task) (took : List (List ℕ) → Type 0) (law : IsTask task) w
       by (BadTranscript number reason) works all ended short not = not works
       by OutOfMemory works all ended short not = not works
       by Usage works all ended short not = not works
+      by LinkFault works all ended short not = not works
+      by (PeerRefused code) works all ended short not = not works
+      by NoThread works all ended short not = not works
+      by DatagramFault works all ended short not = not works
+      by (LinkEnded cause) works all ended short not = not works
       by (BadConfig fault) works all ended short not = not works
       by ReadFault works all ended short not = not works
       by TooLong works all ended short not = not works
@@ -409,6 +444,11 @@ module _ (task : Task) (took : List (List ℕ) → Type 0) (law : IsTask task) w
           }
       by Done l bad others all few taken = absurd bad
       by Usage l bad others all few taken = absurd bad
+      by LinkFault l bad others all few taken = absurd bad
+      by (PeerRefused code) l bad others all few taken = absurd bad
+      by NoThread l bad others all few taken = absurd bad
+      by DatagramFault l bad others all few taken = absurd bad
+      by (LinkEnded cause) l bad others all few taken = absurd bad
       by (BadConfig fault) l bad others all few taken = absurd bad
       by ReadFault l bad others all few taken = absurd bad
       by WriteFault l bad others all few taken = absurd bad

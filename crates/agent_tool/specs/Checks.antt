@@ -6,8 +6,8 @@ use Rattle.agent_config.specs.declared.config.Config.{Config}
 use Rattle.agent_config.specs.declared.fault.ConfigFault.{ConfigFault}
 use Rattle.agent_config.specs.Settings.{settings_in}
 use Rattle.transcript.specs.SettingsText.{settings_text}
-use Rattle.agent_tool.specs.declared.status.Status.{Status}
-use Rattle.agent_tool.specs.declared.status.Status.TheVariants.{Done, Usage, BadConfig, BadTranscript, ReadFault, WriteFault, OutOfMemory, TooLong}
+use Rattle.agent_status.specs.declared.status.Status.{Status}
+use Rattle.agent_status.specs.declared.status.Status.TheVariants.{Done, Usage, BadConfig, BadTranscript, ReadFault, WriteFault, OutOfMemory, TooLong}
 
 -- 2^20: as many octets of settings are taken at most
 abbrev pub most_settings : ℕ

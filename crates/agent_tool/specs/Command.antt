@@ -7,7 +7,7 @@ use Rattle.agent_config.specs.declared.config.Config.{Config}
 use Rattle.agent_config.specs.Settings.{settings_in}
 use Rattle.transcript.specs.Streams.{most_octets}
 use Rattle.transcript.specs.Words.{◌>>=◌, lines_of, number_word}
-use Rattle.agent_tool.specs.declared.status.Status.{Status}
+use Rattle.agent_status.specs.declared.status.Status.{Status}
 use Rattle.agent_tool.specs.Checks.{ChecksBy, most_settings}
 use Rattle.agent_tool.specs.Generated.{GeneratesBy, MeasuresBy, WriteCounts}
 use Rattle.agent_tool.specs.Replay.{replay_task}
@@ -49,13 +49,17 @@ command_of words = None
 
 -- ---- ends
 
--- what was taken of the input and what was written, by the status
-abbrev pub EndsAs : Command → Status → List ℕ → Option (List ℕ) → Option (List ℕ) → Option (List ℕ) → Type 0
-EndsAs Replay status input left before now = EndsBy replay_task status input left before now
-EndsAs Check status input left before now = ChecksBy status input left before now
-EndsAs Show status input left before now = EndsBy show_task status input left before now
-EndsAs (Generate count seed) status input left before now = GeneratesBy status count seed before now
-EndsAs (Measure count seed) status input left before now = MeasuresBy status count seed before now
+-- how a command ends that reads this input, where the source tells it
+abbrev pub EndsOver : Option (List ℕ) → (List ℕ → Type 0) → Type 0
+EndsOver told P = (input : List ℕ) → told ≡ Some input → P input
+
+-- What was taken of the input and what was written, by the status. What is generated needs no input.
+abbrev pub EndsAs : Command → Status → Option (List ℕ) → Option (List ℕ) → Option (List ℕ) → Option (List ℕ) → Type 0
+EndsAs Replay status told left before now = EndsOver told (λ input. EndsBy replay_task status input left before now)
+EndsAs Check status told left before now = EndsOver told (λ input. ChecksBy status input left before now)
+EndsAs Show status told left before now = EndsOver told (λ input. EndsBy show_task status input left before now)
+EndsAs (Generate count seed) status told left before now = GeneratesBy status count seed before now
+EndsAs (Measure count seed) status told left before now = MeasuresBy status count seed before now
 
 -- the counts that rose, by the status: the ends and faults of the source, and the faults of the sink
 abbrev pub CountsAs : Command → Status → ℕ → ℕ → ℕ → ℕ → ℕ → ℕ → Type 0

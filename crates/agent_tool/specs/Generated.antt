@@ -4,8 +4,8 @@ use Rattle.wire_core.specs.Counts.{Rose}
 use Rattle.wire_core.specs.Sink.{Appends, AppendsPrefix}
 use Rattle.transcript.specs.Generator.{generated_lines, generated_text}
 use Rattle.agent_tool.specs.declared.replay.ReplayWork.{ReplayWork}
-use Rattle.agent_tool.specs.declared.status.Status.{Status}
-use Rattle.agent_tool.specs.declared.status.Status.TheVariants.{Done, WriteFault, OutOfMemory}
+use Rattle.agent_status.specs.declared.status.Status.{Status}
+use Rattle.agent_status.specs.declared.status.Status.TheVariants.{Done, WriteFault, OutOfMemory}
 use Rattle.agent_tool.specs.Replay.{Replays, replay_task}
 use Rattle.agent_tool.specs.Tasks.{Closes}
 

@@ -11,8 +11,8 @@ use Rattle.agent_core.specs.Standing.{StandsFor}
 use Rattle.transcript.specs.Text.{output_line, is_reply, is_send, is_drop}
 use Rattle.transcript.specs.Run.{Stage, Settings, Running, follow, line_text, outputs_of}
 use Rattle.transcript.specs.declared.line.Line.{Line}
-use Rattle.agent_tool.specs.declared.status.Status.{Status}
-use Rattle.agent_tool.specs.declared.status.Status.TheVariants.{Done, WriteFault, OutOfMemory}
+use Rattle.agent_status.specs.declared.status.Status.{Status}
+use Rattle.agent_status.specs.declared.status.Status.TheVariants.{Done, WriteFault, OutOfMemory}
 use Rattle.agent_tool.specs.declared.session.Counts.{Counts}
 use Rattle.agent_tool.specs.declared.session.Session.{Session}
 

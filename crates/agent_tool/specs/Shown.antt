@@ -4,8 +4,8 @@ use Rattle.wire_core.specs.Counts.{one_more}
 use Rattle.transcript.specs.Reading.{Bad}
 use Rattle.transcript.specs.Show.{show_line}
 use Rattle.agent_tool.specs.declared.show.ShowWork.{ShowWork}
-use Rattle.agent_tool.specs.declared.status.Status.{Status}
-use Rattle.agent_tool.specs.declared.status.Status.TheVariants.{BadTranscript, OutOfMemory}
+use Rattle.agent_status.specs.declared.status.Status.{Status}
+use Rattle.agent_status.specs.declared.status.Status.TheVariants.{BadTranscript, OutOfMemory}
 use Rattle.agent_tool.specs.Tasks.{Task}
 
 -- the texts of lines, up to the first bad one

@@ -9,8 +9,8 @@ use Rattle.transcript.specs.Streams.{IsUnended, most_octets}
 use Rattle.transcript.specs.declared.raw_lines.RawFault.{RawFault}
 use Rattle.transcript.specs.declared.raw_lines.RawFault.TheVariants as raw
 use Rattle.transcript.specs.Words.{lines_of}
-use Rattle.agent_tool.specs.declared.status.Status.{Status}
-use Rattle.agent_tool.specs.declared.status.Status.TheVariants.{Done, Usage, BadConfig, BadTranscript, ReadFault, WriteFault, OutOfMemory, TooLong}
+use Rattle.agent_status.specs.declared.status.Status.{Status}
+use Rattle.agent_status.specs.declared.status.Status.TheVariants.{Done, BadConfig, BadTranscript, ReadFault, WriteFault, OutOfMemory, TooLong}
 
 -- what a command makes of lines: which is the first bad one, what those before it print, and what stands after all lines
 pub record Task : Type 0 where
@@ -138,14 +138,13 @@ pub record EndsPart (task : Task) (input : List ℕ) (left before now : Option (
 -- what was taken of the input and what was written, by the status
 abbrev pub EndsBy : Task → Status → List ℕ → Option (List ℕ) → Option (List ℕ) → Option (List ℕ) → Type 0
 EndsBy task Done input left before now = Whole task input left before now
-EndsBy task Usage input left before now = ⊥
-EndsBy task (BadConfig fault) input left before now = ⊥
 EndsBy task (BadTranscript line reason) input left before now =
     Stops task (record { line = line; reason = reason }) input left before now
 EndsBy task ReadFault input left before now = BreaksOff task input left before now
 EndsBy task WriteFault input left before now = WritesPart task input left before now ⊎ EndsPart task input left before now
 EndsBy task OutOfMemory input left before now = WritesPart task input left before now
 EndsBy task TooLong input left before now = Overruns task input left before now
+EndsBy task status input left before now = ⊥
 
 -- how a command ends whose next line can't be taken of the source
 abbrev pub StatusOf : RawFault → (List (List ℕ) → Type 0) → Task → Status → Type 0

@@ -11,7 +11,7 @@ use crate::generate::generate;
 use crate::measure::measure;
 use crate::replay::replay;
 use crate::show::show;
-use crate::status::Status;
+use agent_status::Status;
 use std::alloc::Global;
 use std::hash::RandomState;
 use wire_core::{Sink, Source};
@@ -28,8 +28,8 @@ pub fn agent<S: Source, K: Sink>(
     ensures usage { result ≡ Status.Usage ↔ command_of_words words.now ≡ None }
     ensures unread { reads_input (command_of_words words.now) ≡ false → input.new ≡ input.old }
     ensures unwritten { result ≡ Status.Usage → output.new ≡ output.old }
-    ensures ends { (command : Command) → command_of_words words.now ≡ Some command → (X : List ℕ) → S.left input.old ≡ Some X
-        → EndsAs command result X (S.left input.new) (K.written output.old) (K.written output.new) }
+    ensures ends { (command : Command) → command_of_words words.now ≡ Some command
+        → EndsAs command result (S.left input.old) (S.left input.new) (K.written output.old) (K.written output.new) }
     ensures counts { (command : Command) → command_of_words words.now ≡ Some command
         → CountsAs command result (S.ends input.old) (S.ends input.new) (S.faults input.old) (S.faults input.new)
         (K.faults output.old) (K.faults output.new) }

@@ -8,10 +8,10 @@ ghost use Rattle.transcript.specs.SettingsText.{settings_text};
 ghost use Rattle.agent_tool.specs.Checks.{ChecksBy, PrintsNot, most_settings};
 ghost use Rattle.agent_tool.specs.Tasks.{EndsCounts};
 
-use crate::status::Status;
 use crate::whole_input::take_whole;
 use crate::work::write_text;
 use agent_config::ConfigFault;
+use agent_status::Status;
 use std::alloc::Global;
 use transcript::print_settings;
 use wire_core::{Octets, Sink, Source};

@@ -3,7 +3,7 @@
 ghost use Rattle.std.specs.Prelude.{◌≡◌, ◌≢◌, ◌≤◌};
 ghost use Rattle.agent_tool.specs.Generated.{GeneratesBy, WriteCounts};
 
-use crate::status::Status;
+use agent_status::Status;
 use std::alloc::Global;
 use transcript::GenerateFault;
 use wire_core::Sink;

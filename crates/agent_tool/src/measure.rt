@@ -5,8 +5,8 @@ ghost use Rattle.agent_tool.specs.Generated.{MeasuresBy, WriteCounts};
 ghost use Rattle.agent_tool.specs.Replay.{Replays, replay_task};
 
 use crate::replay::ReplayWork;
-use crate::status::Status;
 use crate::work::Work;
+use agent_status::Status;
 use std::alloc::Global;
 use std::hash::RandomState;
 use transcript::Generator;

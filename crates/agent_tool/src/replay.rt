@@ -9,8 +9,8 @@ ghost use Rattle.transcript.specs.Streams.{most_octets};
 ghost use Rattle.transcript.specs.Words.{lines_of};
 
 use crate::session::Session;
-use crate::status::Status;
 use crate::work::{Work, run};
+use agent_status::Status;
 use std::alloc::Global;
 use std::hash::RandomState;
 use transcript::{LineFault, LineReader};

@@ -13,9 +13,9 @@ ghost use Rattle.transcript.specs.Run.{CanFollow, Stage, end_text, event_at, fir
 ghost use Rattle.transcript.specs.declared.line.Line.TheVariants as line;
 ghost use Rattle.agent_tool.specs.Session.{Follows, IsAt, IsDone, IsFailure, RunsAt, RunsOn, begun, counted};
 
-use crate::status::Status;
 use agent_config::{Client, Config};
 use agent_core::{Core, Input, Output};
+use agent_status::Status;
 use std::alloc::Global;
 use std::hash::RandomState;
 use transcript::{Line, print, print_end};

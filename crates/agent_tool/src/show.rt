@@ -8,8 +8,8 @@ ghost use Rattle.transcript.specs.Words.{lines_of};
 ghost use Rattle.agent_tool.specs.Shown.{Shows, ShowsNot, show_task};
 ghost use Rattle.agent_tool.specs.Tasks.{EndsBy, EndsCounts};
 
-use crate::status::Status;
 use crate::work::{Work, run, write_text};
+use agent_status::Status;
 use std::alloc::Global;
 use transcript::ShowFault;
 use wire_core::{Octets, Sink, Source};

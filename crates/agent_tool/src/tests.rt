@@ -1,7 +1,8 @@
 //! Transcripts, packets and settings from outside, over memory.
 
-use crate::{Status, agent, check, generate, measure, replay, show};
+use crate::{agent, check, generate, measure, replay, show};
 use agent_config::ConfigFault;
+use agent_status::Status;
 use std::alloc::Global;
 use std::hash::RandomState;
 use std::process::Abort;
@@ -240,34 +241,6 @@ fn words_of_the_command(rt: HostRuntime) -> Result<(), Fail> {
             agent(rt.alloc(), random, &words[..count], &mut input, &mut output),
             status
         );
-    }
-    Ok(())
-}
-
-#[test]
-fn statuses(rt: HostRuntime) -> Result<(), Fail> {
-    for (status, number, name) in [
-        (Status::Done, 0u8, "Done"),
-        (Status::Usage, 1, "Usage"),
-        (
-            Status::BadConfig {
-                fault: ConfigFault::TwiceAddress { client: 2 },
-            },
-            2,
-            "BadConfig TwiceAddress 2",
-        ),
-        (
-            Status::BadTranscript { line: 3, reason: 2 },
-            3,
-            "BadTranscript 3 2",
-        ),
-        (Status::ReadFault, 4, "ReadFault"),
-        (Status::WriteFault, 5, "WriteFault"),
-        (Status::OutOfMemory, 9, "OutOfMemory"),
-        (Status::TooLong, 12, "TooLong"),
-    ] {
-        assert_eq!(rt; status.number(), number);
-        assert_eq!(rt; format!(in rt.alloc(); "{status}")?.as_str(), name);
     }
     Ok(())
 }

@@ -5,7 +5,7 @@ ghost use Rattle.wire_core.specs.Counts.{Counts, Rose};
 ghost use Rattle.wire_core.specs.Source.{Consumes, IsAtEnd};
 ghost use Rattle.agent_tool.specs.Checks.{TakesNot, most_settings};
 
-use crate::status::Status;
+use agent_status::Status;
 use std::alloc::Global;
 use wire_core::{Got, Source};
 

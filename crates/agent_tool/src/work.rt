@@ -5,7 +5,7 @@ ghost use Rattle.wire_core.specs.Counts.{Rose};
 ghost use Rattle.wire_core.specs.Sink.{Appends, AppendsPrefix};
 ghost use Rattle.agent_tool.specs.Tasks.{Closes, EndsBy, EndsCounts, Finishes, IsBad, IsTask, StatusOf, Task, Works};
 
-use crate::status::Status;
+use agent_status::Status;
 use std::alloc::Global;
 use transcript::{RawFault, RawLine, RawLines};
 use wire_core::{Put, Sink, Source};

@@ -1,5 +1,5 @@
 -- Each step keeps the rule of the table.
-use Rattle.std.proofs.Common.{◌≡◌, ◌≢◌, ℕ, zero, suc, ◌+◌, ◌%◌, ◌^◌, ◌<◌, ◌≤◌, List, [], ◌∷◌, ◌++◌, length, set, slice_index, Option, Some, refl, sym, ap, ◌∙◌, subst, ⊎_elim, arith, append-nil, length-append}
+use Rattle.std.proofs.Common.{◌≡◌, ◌≢◌, ℕ, zero, suc, ◌+◌, ◌%◌, ◌^◌, ◌<◌, ◌≤◌, List, [], ◌∷◌, ◌++◌, length, set, slice_index, Option, Some, refl, sym, ap, ◌∙◌, subst, inl, inr, ⊎_elim, arith, append-nil, length-append}
 use Rattle.std.proofs.Math.Nat.{mod-add-mod}
 use Rattle.std.proofs.lemmas.List.{set_comm}
 use mathlib.Core.Logic.{dite}
@@ -41,6 +41,7 @@ module _ {D A B : Type 0} where
   later : (first : D) (all : List (Turn A B)) (drawn drawn' : ℕ) (v : View D A B) → drawn ≤ drawn' → Fits first all drawn v → Fits first all drawn' v
   later first all drawn drawn' v le f = record {
     holds = f.holds;
+    some_number = f.some_number;
     ticketed = f.ticketed;
     distinct = f.distinct;
     below = f.below;
@@ -64,6 +65,7 @@ module _ {D A B : Type 0} where
       → Fits first all drawn v → Fits first (all ++ (m, t) ∷ []) drawn v
   grows first all m t drawn v ne never f = record {
     holds = holds_more first all m t v.known ne f.holds;
+    some_number = f.some_number;
     ticketed = f.ticketed;
     distinct = f.distinct;
     below = f.below;
@@ -158,6 +160,7 @@ module _ {D A B Base : Type 0} (stands : D → Base → List (Option (A × B)) �
             (changes s k id v w (k.drawn + 1) k.slot at (omega arith) (omega arith) refl (λ e. e)
             record {
               holds = f.holds;
+              some_number = inr some_number;
               ticketed = omega arith;
               distinct = f.distinct;
               below = f.below;
@@ -189,6 +192,7 @@ module _ {D A B Base : Type 0} (stands : D → Base → List (Option (A × B)) �
             (changes s k id v w' k.drawn none at (omega arith) (omega arith) refl (λ _. refl)
             record {
               holds = record { from = f.holds.from; begins = starts_whole k.all; own = λ n i. refl };
+              some_number = inr (omega arith);
               ticketed = omega arith;
               distinct = f.distinct;
               below = f.below;
@@ -267,6 +271,7 @@ module _ {D A B Base : Type 0} (stands : D → Base → List (Option (A × B)) �
         fits = each_set (Fits first all' k.drawn) s.views id w
             record {
               holds = record { from = f.holds.from; begins = subst (λ (l : List (Turn A B)). StartsWith all' l) (sym same) (starts_whole all'); own = λ n i. ap (of n) same };
+              some_number = inr some_number;
               ticketed = omega arith;
               distinct = f.distinct;
               below = f.below;
@@ -309,7 +314,15 @@ module _ {D A B Base : Type 0} (stands : D → Base → List (Option (A × B)) �
         keeps,
         tt,
         changes s k id v w k.drawn k.slot at (omega arith) (omega arith) refl (λ e. e)
-            record { holds = f.holds; ticketed = omega arith; distinct = f.distinct; below = f.below; told = tt; staged = tt }
+            record {
+              holds = f.holds;
+              some_number = ⊎_elim (λ e. inl (ap (λ (x : V). idle x.known) e)) (λ h. inr h) f.some_number;
+              ticketed = omega arith;
+              distinct = f.distinct;
+              below = f.below;
+              told = tt;
+              staged = tt;
+            }
             (λ j u ne at_j t h g. h)
             (slot_set k.all s.views id v w at (λ e. let z : Idle ≡ Serves (length k.all) = sym is ∙ e in cc) k.slot k.there),
         (
@@ -384,6 +397,7 @@ module _ {D A B Base : Type 0} (stands : D → Base → List (Option (A × B)) �
             (each_set (Fits first k.all k.drawn) s.views id left
             record {
               holds = record { from = λ _. f.holds.from (omega arith); begins = f.holds.begins; own = λ n i. f.holds.own n (in-without g n ns i) };
+              some_number = inr (omega arith);
               ticketed = omega arith;
               distinct = apart.0;
               below = λ n i. f.below n (in-without g n ns i);
@@ -393,6 +407,7 @@ module _ {D A B Base : Type 0} (stands : D → Base → List (Option (A × B)) �
             (λ j u _ at_j. k.fits j u at_j))
             record {
               holds = record { from = λ _. f.holds.from (omega arith); begins = f.holds.begins; own = λ n i. f.holds.own n (subst (λ (x : ℕ). In x ns) (sym (is_g n i)) g_in) };
+              some_number = inr (omega arith);
               ticketed = omega arith;
               distinct = ((λ h. h), tt);
               below = λ n i. f.below n (subst (λ (x : ℕ). In x ns) (sym (is_g n i)) g_in);
@@ -439,6 +454,7 @@ module _ {D A B Base : Type 0} (stands : D → Base → List (Option (A × B)) �
                 begins = l.0;
                 own = λ n i. ⊎_elim (λ h. squeeze n v.known.seen seen k.all l.1 l.0 (f.holds.own n h)) (λ h. squeeze n w.known.seen seen k.all l.2 l.0 (f'.holds.own n h)) (in-append n ns ms i);
               };
+              some_number = inr (omega arith);
               ticketed = omega arith;
               distinct = distinct-append ns ms f.distinct f'.distinct a.numbers;
               below = λ n i. ⊎_elim (f.below n) (f'.below n) (in-append n ns ms i);
@@ -448,6 +464,7 @@ module _ {D A B Base : Type 0} (stands : D → Base → List (Option (A × B)) �
             (λ j u _ at_j. each_set (Fits first k.all k.drawn) s.views other nothing
             record {
               holds = record { from = λ h. absurd (omega arith); begins = (k.all, refl); own = λ n i. absurd i };
+              some_number = inl refl;
               ticketed = omega arith;
               distinct = tt;
               below = λ n i. absurd i;
@@ -505,6 +522,7 @@ module _ {D A B Base : Type 0} (stands : D → Base → List (Option (A × B)) �
       one : (i : ℕ) (v : V) → get_elem? (idle (fresh first) ∷ []) i ≡ some v → Fits first [] 0 v
       one zero v at = subst (Fits first [] 0) (some-injective (idle (fresh first)) v at) record {
         holds = record { from = λ _. refl; begins = ([], refl); own = λ n i. refl };
+        some_number = inr (omega arith);
         ticketed = omega arith;
         distinct = distinct;
         below = below;

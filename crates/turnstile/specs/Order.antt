@@ -1,6 +1,6 @@
 -- The rule of the table, and what each step tells. Word 0 counts the tickets drawn and word 1 the turns taken, both
 -- modulo 2^64. Slot 0 has the desk.
-use Rattle.std.specs.Prelude.{◌≡◌, ◌≢◌, ℕ, ◌+◌, ◌%◌, ◌^◌, ◌<◌, ◌≤◌, List, [], ◌∷◌, ◌++◌, length, Option, Some, None}
+use Rattle.std.specs.Prelude.{◌≡◌, ◌≢◌, ℕ, ◌+◌, ◌%◌, ◌^◌, ◌<◌, ◌≤◌, ◌⊎◌, List, [], ◌∷◌, ◌++◌, length, Option, Some, None}
 use mathlib.Core.Option.{some, none}
 use mathlib.Core.Option as maybe
 use lib.ListN.{get_elem?}
@@ -45,6 +45,10 @@ module _ {D A B : Type 0} where
   abbrev pub idle : Known D A B → View D A B
   idle k = record { known = k; told = []; stage = Idle }
 
+  -- the view of a seat that was given up in a join
+  abbrev pub spent : View D A B
+  spent = idle (record { first = None; numbers = []; seen = [] })
+
   -- what was known stays true: it begins all turns, and has all that were taken under its numbers
   pub record Holds (first : D) (all : List (Turn A B)) (k : Known D A B) : Type 0 where
     pub from : 0 < length k.numbers → k.first ≡ Some first
@@ -56,8 +60,10 @@ module _ {D A B : Type 0} where
   Told first all numbers [] = Unit {0}
   Told first all numbers (k ∷ ks) = Holds first all k × ((n : ℕ) → In n k.numbers → In n numbers) × Told first all numbers ks
 
+  -- each seat but one that was given up has at least one number
   pub record Fits (first : D) (all : List (Turn A B)) (drawn : ℕ) (v : View D A B) : Type 0 where
     pub holds : Holds first all v.known
+    pub some_number : (v ≡ spent) ⊎ (0 < length v.known.numbers)
     pub ticketed : tickets v.stage ≤ length v.known.numbers
     pub distinct : Distinct v.known.numbers
     pub below : (n : ℕ) → In n v.known.numbers → n < 4
@@ -134,9 +140,6 @@ module _ {D A B : Type 0} where
     told = v.known ∷ u.known ∷ [];
     stage = Idle;
   }
-
-  abbrev pub spent : View D A B
-  spent = idle (record { first = None; numbers = []; seen = [] })
 
   -- two pasts that were told begin what is seen, and have all that it has under their numbers
   pub record Agree (k v u : Known D A B) : Type 0 where

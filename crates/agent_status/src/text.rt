@@ -1,50 +1,10 @@
-//! How a run ended.
+//! The names of statuses, with what they hold.
 
-ghost use Rattle.std.specs.Prelude.{◌≡◌};
-ghost use Rattle.agent_tool.specs.Status.{status_number};
-
+use crate::status::Status;
 use agent_config::ConfigFault;
+use peer_machine::LinkCause;
 use std::fmt;
 use std::fmt::{Display, Formatter};
-
-/// How a run ended.
-#[derive(Clone, Debug, Drop, PartialEq, Eq)]
-pub enum Status {
-    /// The input was read to its end.
-    Done,
-    /// The words aren't those of a command.
-    Usage,
-    /// The settings have this fault.
-    BadConfig { fault: ConfigFault },
-    /// This line of the transcript, counted from 1, may not stand where it stands.
-    BadTranscript { line: u64, reason: u32 },
-    /// The input failed.
-    ReadFault,
-    /// The output failed.
-    WriteFault,
-    /// Memory ran out.
-    OutOfMemory,
-    /// The input has more octets than may be taken of one.
-    TooLong,
-}
-
-impl Status {
-    /// The number that the program exits with.
-    pub fn number(&self) -> u8
-        ensures { result ≡ status_number self.now }
-    {
-        match self {
-            Status::Done => 0,
-            Status::Usage => 1,
-            Status::BadConfig { .. } => 2,
-            Status::BadTranscript { .. } => 3,
-            Status::ReadFault => 4,
-            Status::WriteFault => 5,
-            Status::OutOfMemory => 9,
-            Status::TooLong => 12,
-        }
-    }
-}
 
 /// Writes the name of a fault of settings, with the place and the key that it is about.
 fn write_fault<W: fmt::Write>(f: &mut Formatter<W>, fault: &ConfigFault) -> fmt::Result {
@@ -69,16 +29,31 @@ fn write_fault<W: fmt::Write>(f: &mut Formatter<W>, fault: &ConfigFault) -> fmt:
     }
 }
 
+/// Writes the name of a cause for which the link was closed, with what it holds.
+fn write_cause<W: fmt::Write>(f: &mut Formatter<W>, cause: LinkCause) -> fmt::Result {
+    match cause {
+        LinkCause::Refused { result } => write!(f, "LinkEnded Refused {result}"),
+        LinkCause::PeerLeft { cause } => write!(f, "LinkEnded PeerLeft {cause}"),
+        LinkCause::Broken { fault } => write!(f, "LinkEnded Broken {fault:?}"),
+        _ => write!(f, "LinkEnded {cause:?}"),
+    }
+}
+
 impl Display for Status {
     fn fmt<W: fmt::Write>(&self, f: &mut Formatter<W>) -> fmt::Result {
         match self {
             Status::BadConfig { fault } => write_fault(f, fault),
             Status::BadTranscript { line, reason } => write!(f, "BadTranscript {line} {reason}"),
+            Status::PeerRefused { result } => write!(f, "PeerRefused {result}"),
+            Status::LinkEnded { cause } => write_cause(f, *cause),
             Status::Done => f.write_str("Done"),
             Status::Usage => f.write_str("Usage"),
             Status::ReadFault => f.write_str("ReadFault"),
             Status::WriteFault => f.write_str("WriteFault"),
+            Status::LinkFault => f.write_str("LinkFault"),
+            Status::NoThread => f.write_str("NoThread"),
             Status::OutOfMemory => f.write_str("OutOfMemory"),
+            Status::DatagramFault => f.write_str("DatagramFault"),
             Status::TooLong => f.write_str("TooLong"),
         }
     }

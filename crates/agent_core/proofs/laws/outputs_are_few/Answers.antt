@@ -1,0 +1,5 @@
+use Rattle.agent_core.proofs.LawOfCounts as lemmas
+use Rattle.agent_core.proofs.laws.outputs_are_few.Goals as goal
+
+pub returns : goal.returns
+returns c = lemmas.outputs_are_few

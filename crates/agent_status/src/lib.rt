@@ -1,0 +1,10 @@
+//! How a run of the agent ended.
+#![tactic(auto)]
+
+mod status;
+mod text;
+
+pub use status::Status;
+
+#[cfg(test)]
+mod tests;
