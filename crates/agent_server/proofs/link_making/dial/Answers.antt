@@ -1,0 +1,19 @@
+use Rattle.std.proofs.Common.{◌∙◌, true, subst, arith}
+use Rattle.turnstile.specs.Passes.{known, table_of}
+use Rattle.agent_server.specs.Running.{TookTick}
+use Rattle.agent_server.proofs.DialLemmas.{dialling-finished, dialling-made, dialling-on}
+use Rattle.agent_server.proofs.link_making.dial.Goals as goal
+
+pub returns-then-row-lt-MOST_DIALS-clause-dialled : goal.returns-then-row-lt-MOST_DIALS-clause-dialled
+returns-then-row-lt-MOST_DIALS-clause-dialled g c =
+    let (turn, went, took) = c.tick.ensures.ticked in
+    dialling-finished g.L.In.LinkIn.told g.L.Out.LinkOut.told _ _ _ _ _ _ c.loop-row.row turn c.if-row-lt-MOST_DIALS.true c.loop-row.invariant.so_far c.in_default.ensures.dialled went
+    (subst (λ b. TookTick b turn) c.if-tick.true took)
+
+pub loop-row-preserved : goal.loop-row-preserved
+loop-row-preserved g c =
+    let (turn, went, took) = c.tick.ensures.ticked in
+    record {
+      table = c.tick.ensures.table ∙ c.loop-row.invariant.table;
+      so_far = dialling-on _ _ _ _ _ _ c.loop-row.row _ turn c.loop-row-test.true c.loop-row.invariant.so_far c.in_default.ensures.dialled went took;
+    }

@@ -1,0 +1,170 @@
+-- What a run of the server was: all its turns, and what its devices tell ([Threads]).
+use Rattle.std.specs.Prelude.{◌≡◌, ◌≢◌, ℕ, zero, suc, ◌+◌, ◌-◌, ◌^◌, ◌<◌, ◌≤◌, ◌⊎◌, min, nat_le, Bool, true, false, if◌then◌else◌, not, List, [], ◌∷◌, ◌++◌, length, filter, All, Option, Some, None}
+use Rattle.wire_core.specs.Counts.{Rose}
+use Rattle.radius_packet.specs.declared.reasons.Via.{Via}
+use Rattle.radius_packet.specs.declared.reasons.Via.TheVariants.{Auth, Acct}
+use Rattle.agent_config.specs.declared.config.Config.{Config}
+use Rattle.peer_machine.specs.declared.LinkCause.{LinkCause}
+use Rattle.peer_machine.specs.declared.LinkCause.TheVariants.{Refused, Left}
+use Rattle.agent_status.specs.declared.status.Status.{Status}
+use Rattle.agent_status.specs.declared.status.Status.TheVariants.{Done, LinkFault, PeerRefused, NoThread, OutOfMemory, DatagramFault, LinkEnded}
+use Rattle.wire_devices.specs.Dialling.{Dials}
+use Rattle.wire_devices.specs.Links.{Inlet, Outlet}
+use Rattle.wire_devices.specs.Sockets.{Socket}
+use Rattle.wire_devices.specs.Telling.{TellsOnly}
+use Rattle.agent_core.specs.declared.events.Input.{Input}
+use Rattle.agent_core.specs.declared.events.Input.TheVariants.{Leave}
+use Rattle.turnstile.specs.Turns.{Numbered, of, plain}
+use Rattle.agent_server.specs.declared.heard.Heard.{Heard}
+use Rattle.agent_server.specs.declared.running.RunEnd.{RunEnd}
+use Rattle.agent_server.specs.declared.running.RunEnd.TheVariants as run
+use Rattle.agent_server.specs.declared.trail.Pair.{Pair}
+use Rattle.agent_server.specs.declared.trail.Trail.{Trail}
+use Rattle.agent_server.specs.Desks.{HasRead}
+use Rattle.agent_server.specs.Entries.{RunTurn, is_final, replies_by, ticks}
+use Rattle.agent_server.specs.LinkReading as link
+use Rattle.agent_server.specs.Running.{LeftAtEnd, RoseBy}
+use Rattle.agent_server.specs.Runs.{IsRun, history, places_of}
+use Rattle.agent_server.specs.Serving.{AreUnopened, IsUp, MayWrite, Spanned}
+use Rattle.agent_server.specs.SocketReading as socket
+use Rattle.agent_server.specs.Spans.{AreSpans, ServerTurn, SpansFit, closings}
+
+-- ---- who asks what
+
+abbrev pub MayWriteTurn : RunTurn → Type 0
+MayWriteTurn None = Unit {0}
+MayWriteTurn (Some entry) = MayWrite entry.0 ⊎ IsUp entry.0
+
+-- A turn by its number: 0 is the writer's, 1 and 2 are those of the readers of the sockets, whose failed receives in a row
+-- are so many, and 3 is that of the readers of links.
+abbrev pub MayTurn : ℕ → ℕ → ℕ → RunTurn → Type 0
+MayTurn auth acct zero turn = MayWriteTurn turn
+MayTurn auth acct (suc zero) turn = socket.MayTake Auth auth turn
+MayTurn auth acct (suc (suc zero)) turn = socket.MayTake Acct acct turn
+MayTurn auth acct (suc (suc (suc zero))) turn = link.MayTake turn
+MayTurn auth acct (suc (suc (suc (suc n)))) turn = ⊥
+
+-- ---- when the agent takes its leave
+
+-- each Leave comes after an entry at which the moment had reached `until`
+abbrev pub LeavesAtEnd : ℕ → List RunTurn → Type 0
+LeavesAtEnd until turns =
+    (front back : List RunTurn) (left : Heard) → turns ≡ front ++ Some (Leave, left) ∷ back
+    → (before after : List RunTurn) × ((ask : Input) × ((heard : Heard) × (front ≡ before ++ Some (ask, heard) ∷ after) × (until ≤ heard.moment)))
+
+-- ---- statuses
+
+abbrev pub Holds : {A : Type 0} → List A → A → Type 0
+Holds {A} xs x = (front : List A) × ((back : List A) × (xs ≡ front ++ x ∷ back))
+
+-- the causes after which another link is made
+abbrev pub others : List LinkCause → List LinkCause
+others causes = filter (λ cause. not (is_final cause)) causes
+
+-- 256 links were closed for other causes than that the home server refused them or the agent left them, the last for this one
+pub record AreWorn (causes : List LinkCause) (cause : LinkCause) : Type 0 where
+  pub many : length (others causes) ≡ 256
+  pub last : (front : List LinkCause) × (others causes ≡ front ++ cause ∷ [])
+
+-- where several statuses stand, the one with the least rank is given
+abbrev pub rank : Status → ℕ
+rank OutOfMemory = 0
+rank NoThread = 1
+rank DatagramFault = 2
+rank LinkFault = 3
+rank (PeerRefused code) = 4
+rank (LinkEnded cause) = 5
+rank status = 6
+
+abbrev pub HasFinished : List RunTurn → Type 0
+HasFinished turns =
+    (front back : List RunTurn) × ((ask : Input) × ((heard : Heard) × (turns ≡ front ++ Some (ask, heard) ∷ back) × (heard.finished ≡ true)))
+
+-- why a run whose workers were started ended so: by the writer's turns, all turns, the causes for which links were closed,
+-- the failed receives and dials in a row, and whether a start of a thread was refused
+abbrev pub Because : Status → List RunTurn → List RunTurn → List LinkCause → ℕ → ℕ → ℕ → Type 0 → Type 0
+Because Done own turns causes auth acct dials refused =
+    LeftAtEnd own × HasFinished turns × ((code : ℕ) → ¬ Holds causes (Refused code))
+Because LinkFault own turns causes auth acct dials refused = dials ≡ 16
+Because (PeerRefused code) own turns causes auth acct dials refused = Holds causes (Refused code)
+Because NoThread own turns causes auth acct dials refused = refused
+Because OutOfMemory own turns causes auth acct dials refused = Unit {0}
+Because DatagramFault own turns causes auth acct dials refused = (auth ≡ 16) ⊎ (acct ≡ 16)
+Because (LinkEnded cause) own turns causes auth acct dials refused = AreWorn causes cause
+Because status own turns causes auth acct dials refused = ⊥
+
+-- Each of these statuses is given where it stands, unless one with a lesser rank is.
+pub record IsGiven (status : Status) (causes : List LinkCause) (auth acct : ℕ) : Type 0 where
+  pub sockets : (auth ≡ 16) ⊎ (acct ≡ 16) → (status ≡ DatagramFault) ⊎ (rank status < 2)
+  pub refused : (code : ℕ) → Holds causes (Refused code) → (status ≡ PeerRefused code) ⊎ (rank status < 4)
+  pub worn : (cause : LinkCause) → AreWorn causes cause → (status ≡ LinkEnded cause) ⊎ (rank status < 5)
+
+-- ---- the status that is given
+
+-- by the cause for which the last of so many links was closed
+abbrev pub ended_status : Option LinkCause → ℕ → Status
+ended_status None links = Done
+ended_status (Some (Refused code)) links = PeerRefused code
+ended_status (Some Left) links = Done
+ended_status (Some cause) links = if nat_le 256 links then LinkEnded cause else Done
+
+-- by why no further link was made, and whether a socket failed for good
+abbrev pub status_given : RunEnd → Bool → Option LinkCause → ℕ → Status
+status_given run.NoMemory failed closed links = OutOfMemory
+status_given run.NoThread failed closed links = NoThread
+status_given run.LinkFault failed closed links = if failed then DatagramFault else LinkFault
+status_given end failed closed links = if failed then DatagramFault else ended_status closed links
+
+-- ---- a run
+
+module _ {I O : Type 0} (hears : I → Inlet) (speaks : O → Outlet) where
+  -- All turns of a run fall into the dialling at first and the spans of its links.
+  pub record Linked (config : Config) (pairs : List (Pair I O)) (turns : List ServerTurn) (status : Status) (out retries : ℕ) : Type 0 where
+    pub opened : List (Pair I O)
+    pub spare : List (Pair I O)
+    pub paired : pairs ≡ opened ++ spare
+    pub unopened : AreUnopened hears speaks spare
+    pub only : status ≢ OutOfMemory → spare ≡ []
+    pub segs : List (List ServerTurn)
+    pub spanned : Spanned hears speaks opened segs turns out retries
+    pub spans : AreSpans segs
+    pub fit : SpansFit config spanned.front segs
+
+module _ {C D I O : Type 0} (readings : C → Option (List ℕ)) (told : D → Socket) (hears : I → Inlet) (speaks : O → Outlet) where
+  -- What a run was whose workers were started: of these settings up to the moment `until`, over a clock that had told these
+  -- readings before.
+  pub record Served (config : Config) (until : ℕ) (before : List ℕ) (auth acct auth' acct' : Socket) (dials dials' : Dials) (refused : Type 0)
+      (clock : C) (trail : Trail C D I O) (status : Status) : Type 0 where
+    pub run : IsRun config until (plain trail.turns)
+    pub numbered : Numbered trail.turns
+    pub asks : All (λ turn. MayTurn auth'.row acct'.row turn.0 turn.1) trail.turns
+    pub clock_read : HasRead (readings clock) before (plain trail.turns)
+    pub entries : trail.entries ≡ min (length (history (plain trail.turns))) (2 ^ 64 - 1)
+    pub auth_out : ℕ
+    pub acct_out : ℕ
+    pub out : ℕ
+    pub retries : ℕ
+    pub auth_served : socket.ServedSocket Auth (of 1 trail.turns) auth auth' auth_out
+    pub acct_served : socket.ServedSocket Acct (of 2 trail.turns) acct acct' acct_out
+    pub linked : Linked hears speaks config trail.links trail.turns status out retries
+    pub auth_replies : TellsOnly (told trail.auth_twin).handed (replies_by Auth (of 3 trail.turns))
+    pub acct_replies : TellsOnly (told trail.acct_twin).handed (replies_by Acct (of 3 trail.turns))
+    pub lost : trail.lost ≡ min (out + auth_out + acct_out) (2 ^ 64 - 1)
+    pub again : trail.again ≡ min retries (2 ^ 64 - 1)
+    pub dialled : RoseBy (ticks (of 0 trail.turns)) dials.faults dials'.faults
+    pub because : Because status (of 0 trail.turns) (plain trail.turns) (closings (places_of config (plain trail.turns))) auth'.row acct'.row dials'.row refused
+    pub given : IsGiven status (closings (places_of config (plain trail.turns))) auth'.row acct'.row
+    pub leaves : 3 < rank status → ((cause : LinkCause) → ¬ AreWorn (closings (places_of config (plain trail.turns))) cause)
+        → LeavesAtEnd until (plain trail.turns)
+
+-- a reading of the clock is at or past that moment, where it tells its readings
+abbrev pub HasPassed : Option (List ℕ) → ℕ → Type 0
+HasPassed told until = (all : List ℕ) → told ≡ Some all → (reading : ℕ) × Holds all reading × (until ≤ reading)
+
+-- why a run ended before its workers were started
+abbrev pub EndsEarly : Status → Option (List ℕ) → ℕ → Dials → Type 0 → Type 0 → Type 0
+EndsEarly OutOfMemory told until dials twin start = Unit {0}
+EndsEarly LinkFault told until dials twin start = (dials.row ≡ 16) ⊎ ((0 < dials.row) × HasPassed told until)
+EndsEarly DatagramFault told until dials twin start = twin
+EndsEarly NoThread told until dials twin start = start
+EndsEarly status told until dials twin start = ⊥

@@ -1,0 +1,157 @@
+-- How a run starts and how it ends: what is at hand before its first link, what came of that link and of the starts of the
+-- workers, and what is known when all workers are done.
+use Rattle.std.specs.Prelude.{◌≡◌, ℕ, ◌<◌, ◌≤◌, ◌⊎◌, false, List, [], ◌∷◌, Option, Result, Ok, Err, vec_capacity}
+use Rattle.std.specs.Arc.{arc_value}
+use Rattle.wire_core.specs.Counts.{Rose}
+use Rattle.radius_packet.specs.declared.reasons.Via.{Via}
+use Rattle.radius_packet.specs.declared.reasons.Via.TheVariants.{Auth, Acct}
+use Rattle.agent_status.specs.declared.status.Status.{Status}
+use Rattle.agent_status.specs.declared.status.Status.TheVariants.{DatagramFault, LinkFault, OutOfMemory}
+use Rattle.wire_devices.specs.Dialling.{Dials}
+use Rattle.wire_devices.specs.Links.{Inlet, Outlet, IsFreshInlet, IsFreshOutlet}
+use Rattle.wire_devices.specs.Sockets.{Socket, Twinned, IsFreshSocket}
+use Rattle.agent_core.specs.declared.events.Input.{Input}
+use Rattle.atomic_table.specs.Seated.{TableId}
+use Rattle.turnstile.specs.declared.view.Known.{Known}
+use Rattle.turnstile.specs.Knowing.{Carries}
+use Rattle.turnstile.specs.Passes.{known, table_of}
+use Rattle.turnstile.specs.Turns.{Numbered, of, plain}
+use Rattle.agent_server.specs.declared.desk.AgentDesk.{AgentDesk}
+use Rattle.agent_server.specs.declared.desk.RunBase.{RunBase}
+use Rattle.agent_server.specs.declared.heard.Heard.{Heard}
+use Rattle.agent_server.specs.declared.running.Past.{Past}
+use Rattle.agent_server.specs.declared.running.RunEnd.{RunEnd}
+use Rattle.agent_server.specs.declared.running.Twins.{Twins}
+use Rattle.agent_server.specs.declared.server.FirstLink.{FirstLink}
+use Rattle.agent_server.specs.declared.server.SocketBack.{SocketBack}
+use Rattle.agent_server.specs.declared.server.Stand.{Stand}
+use Rattle.agent_server.specs.declared.workers.Worker.{Worker}
+use Rattle.agent_server.specs.declared.workers.Worker.TheVariants as worker
+use Rattle.agent_server.specs.Desks.{HasRead, StandsBy}
+use Rattle.agent_server.specs.Entries.{EachEntry, EndsWith, ticks}
+use Rattle.agent_server.specs.Running.{Ends, IsFinishedTick, Opened, RoseBy}
+use Rattle.agent_server.specs.Runs.{IsRun}
+use Rattle.agent_server.specs.Serving.{IsTick}
+use Rattle.agent_server.specs.SocketReading.{ReadsSocket}
+use Rattle.agent_server.specs.Spans.{ServerTurn}
+
+-- ---- before the first link
+
+-- the shares are of the turnstile, its one pass has seen nothing, and there is room for the links
+pub record IsReady {C I O : Type 0} (stand : Stand C I O) : Type 0 where
+  pub table : table_of stand.pass ≡ arc_value stand.turnstile
+  pub auth : arc_value stand.auth_share ≡ arc_value stand.turnstile
+  pub acct : arc_value stand.acct_share ≡ arc_value stand.turnstile
+  pub link : arc_value stand.link_share ≡ arc_value stand.turnstile
+  pub numbers : (known stand.pass).numbers ≡ 0 ∷ 1 ∷ 2 ∷ 3 ∷ []
+  pub seen : (known stand.pass).seen ≡ []
+  pub pairs : stand.pairs.items ≡ []
+  pub room : 256 ≤ vec_capacity stand.pairs
+
+-- what a turnstile was whose clock is left: its turns were a run, which the clock has read
+pub record IsRead {C : Type 0} (readings : C → Option (List ℕ)) (clock : C) (base : RunBase) (seen : List ServerTurn) : Type 0 where
+  pub run : IsRun base.config base.until (plain seen)
+  pub numbered : Numbered seen
+  pub clock_read : HasRead (readings clock) base.before (plain seen)
+
+-- ---- the first link
+
+-- only the writer took turns
+abbrev pub IsAlone : List ServerTurn → Type 0
+IsAlone seen = (of 1 seen ≡ []) × (of 2 seen ≡ []) × (of 3 seen ≡ [])
+
+-- the writer was alone and let time pass, and by the last answer the run was at its end
+pub record FinishedAlone (seen : List ServerTurn) : Type 0 where
+  pub asks : EachEntry (λ ask heard. IsTick ask) (of 0 seen)
+  pub last : EndsWith IsFinishedTick (of 0 seen)
+  pub alone : IsAlone seen
+
+-- a socket of which twins were made
+abbrev pub Alike : Socket → Socket → Type 0
+Alike before now = Twinned ⊥ before now
+
+module _ {I O : Type 0} (hears : I → Inlet) (speaks : O → Outlet) where
+  -- the first link was made, and its Up came last
+  pub record FirstOpened {D : Type 0} (told : D → Socket) (first : FirstLink D I O) (seen : List ServerTurn) (before now : Dials) : Type 0 where
+    pub fresh_in : IsFreshInlet (hears first.pair.link_in)
+    pub fresh_out : IsFreshOutlet (speaks first.pair.link_out)
+    pub auth : IsFreshSocket (told first.twins.auth)
+    pub acct : IsFreshSocket (told first.twins.acct)
+    pub alone : IsAlone seen
+    pub opened : Opened hears speaks [] seen 0 0
+    pub dialled : RoseBy (ticks (of 0 seen)) before.faults now.faults
+    pub row : now.row ≡ 0
+
+-- why no link was opened, or no twin made of a socket
+abbrev pub FirstFails : Status → List ServerTurn → Dials → Type 0 → Type 0
+FirstFails OutOfMemory seen dials twin = Unit {0}
+FirstFails LinkFault seen dials twin = (dials.row ≡ 16) ⊎ ((0 < dials.row) × FinishedAlone seen)
+FirstFails DatagramFault seen dials twin = twin
+FirstFails status seen dials twin = ⊥
+
+-- ---- workers
+
+-- a pass of this turnstile, with this one number
+abbrev pub IsAt : {C : Type 0} → TableId → ℕ → TableId → Known (AgentDesk C) Input Heard → Type 0
+IsAt turnstile number table k = (table ≡ turnstile) × (k.numbers ≡ number ∷ [])
+
+module _ {C D I : Type 0} where
+  abbrev pub IsReader : TableId → ℕ → Worker C D I → Type 0
+  IsReader turnstile number (worker.Reader alloc shared pass via socket) = IsAt turnstile number (table_of pass) (known pass)
+  IsReader turnstile number (worker.Link alloc shared pass link auth acct) = ⊥
+
+  abbrev pub IsLinkReader : TableId → ℕ → Worker C D I → Type 0
+  IsLinkReader turnstile number (worker.Link alloc shared pass link auth acct) = IsAt turnstile number (table_of pass) (known pass)
+  IsLinkReader turnstile number (worker.Reader alloc shared pass via socket) = ⊥
+
+  abbrev pub IsSocketWorker : Worker C D I → Type 0
+  IsSocketWorker (worker.Reader alloc shared pass via socket) = Unit {0}
+  IsSocketWorker (worker.Link alloc shared pass link auth acct) = ⊥
+
+  -- a start gave this worker, whether or not it was started
+  abbrev pub IsStart : Worker C D I → Result (Worker C D I) (Worker C D I) → Type 0
+  IsStart handed (Ok started) = started ≡ handed
+  IsStart handed (Err back) = back ≡ handed
+
+module _ {C D : Type 0} (told : D → Socket) where
+  -- a reader was made of a socket of this port, under this number, when so much was seen
+  pub record ReadsFor (via : Via) (number : ℕ) (k begin : Known (AgentDesk C) Input Heard) (before made : Socket) : Type 0 where
+    pub numbers : begin.numbers ≡ number ∷ []
+    pub seen : begin.seen ≡ k.seen
+    pub none : of number k.seen ≡ []
+    pub alike : Alike before made
+
+  -- its worker
+  abbrev pub StartsFor : {I : Type 0} → Via → ℕ → Known (AgentDesk C) Input Heard → Socket → Worker C D I → Type 0
+  StartsFor {I} via number k before (worker.Reader alloc shared pass port socket) = (port ≡ via) × ReadsFor via number k (known pass) before (told socket)
+  StartsFor {I} via number k before (worker.Link alloc shared pass link auth acct) = ⊥
+
+  -- the reader of a socket that ran, or was never started
+  abbrev pub IsSocketBack : {I : Type 0} → Result (Worker C D I) (Worker C D I) → SocketBack C D → Type 0
+  IsSocketBack {I} (Ok (worker.Reader alloc shared pass via socket)) back =
+      (table_of back.pass ≡ table_of pass)
+      × ReadsSocket via (known pass) (known back.pass) (told socket) (told back.socket) back.lost back.failed
+  IsSocketBack {I} (Err (worker.Reader alloc shared pass via socket)) back =
+      back ≡ record { pass = pass; socket = socket; lost = 0; failed = false }
+  IsSocketBack {I} (Ok (worker.Link alloc shared pass link auth acct)) back = ⊥
+  IsSocketBack {I} (Err (worker.Link alloc shared pass link auth acct)) back = ⊥
+
+  -- the reader of a socket is done
+  pub record SocketDone (via : Via) (number : ℕ) (k : Known (AgentDesk C) Input Heard) (before : Socket) (back : SocketBack C D) : Type 0 where
+    pub begin : Known (AgentDesk C) Input Heard
+    pub made : Socket
+    pub begun : ReadsFor via number k begin before made
+    pub reads : ReadsSocket via begin (known back.pass) made (told back.socket) back.lost back.failed
+
+-- ---- the end
+
+-- All workers are done: what the writer knew when they were started and knows now, and what each gave back. `dials` are the
+-- dialer's counts at first, when the workers were started, and now; `starts` are the crew's counts of refused starts.
+pub record AllDone {C D I O : Type 0} (readings : C → Option (List ℕ)) (told : D → Socket) (hears : I → Inlet) (speaks : O → Outlet) (base : RunBase)
+    (dials dials' dials'' : Dials) (starts starts' : ℕ) (auth acct : Socket) (k k' : Known (AgentDesk C) Input Heard) (end : RunEnd) (twins : Twins D) (past : Past I O)
+    (auth_back acct_back : SocketBack C D) : Type 0 where
+  pub carries : Carries (StandsBy readings) k base
+  pub dialled : RoseBy (ticks (of 0 k.seen)) dials.faults dials'.faults
+  pub ends : Ends hears speaks told end dials' dials'' (Rose starts starts') k k' twins past
+  pub auth_done : SocketDone told Auth 1 k auth auth_back
+  pub acct_done : SocketDone told Acct 2 k acct acct_back

@@ -1,0 +1,247 @@
+//! One core behind a clock, at which threads take turns.
+
+ghost use Rattle.std.specs.Prelude.{◌≡◌, ◌+◌, ◌<◌, ◌≤◌, ◌++◌, [], ◌∷◌, List, ℕ, length, map, vec_capacity, vec_len, true, false, IfOk, OnErr, Some, None};
+ghost use Rattle.wire_core.specs.Counts.{one_more};
+ghost use Rattle.agent_core.specs.Places.{Event, begins as begins_link, is_drain as drain_test, is_serving, now, waiting, link};
+ghost use Rattle.agent_core.specs.History.{outputs_after, past};
+ghost use Rattle.agent_core.specs.Standing.{StandsFor};
+ghost use Rattle.agent_server.specs.Desks.{Enters, HasRead, HasRoom, IsCalm, IsSame, StandsBy};
+ghost use Rattle.agent_server.specs.Runs.{closed_with, handed_over, is_leave as leave_test, is_send as send_test, last_cause, others_in, sends_in};
+
+use crate::heard::Heard;
+use agent_config::Config;
+use agent_core::{Core, Input, Output, Outputs};
+use peer_machine::{LinkCause, Phase};
+use std::alloc::Global;
+use std::collections::LinkedList;
+use std::mem;
+use turnstile::Desk;
+use wire_core::NoMemory;
+use wire_devices::Clock;
+
+/// How many things go out for one event beside what is sent again.
+const MOST_OUTPUTS: usize = 3;
+
+/// What a run begins from: the settings, the moment of its end, and the clock's readings before the first turn. Contracts
+/// alone speak of it.
+#[derive(Drop)]
+pub struct RunBase {
+    pub config: Config,
+    pub until: u64,
+    pub before: LinkedList<u64>,
+}
+
+/// One core behind a clock, and what was sent on the link and is to be handed over. Contracts say for which turns it
+/// stands.
+#[derive(Drop)]
+pub struct AgentDesk<C> {
+    alloc: Global,
+    core: Core,
+    clock: C,
+    until: u64,
+    /// The greatest moment so far.
+    moment: u64,
+    outbox: Vec<Output>,
+    closed: Option<LinkCause>,
+    /// Whether the agent wanted to end.
+    left: bool,
+    entries: u64,
+}
+
+fn is_send(output: &Output) -> bool
+    ensures { result ≡ send_test output.now }
+{
+    matches!(output, Output::Send { .. })
+}
+
+fn is_drain(input: &Input) -> bool
+    ensures { result ≡ drain_test input.now }
+{
+    matches!(input, Input::Drain)
+}
+
+fn is_leave(input: &Input) -> bool
+    ensures { result ≡ leave_test input.now }
+{
+    matches!(input, Input::Leave)
+}
+
+/// Puts an output behind others, where there is room for it.
+fn put(output: Output, outputs: &mut Vec<Output>)
+    ensures items { vec_len outputs.old < vec_capacity outputs.old → outputs.new.items ≡ outputs.old.items ++ output ∷ [] }
+    ensures capacity { vec_capacity outputs.old ≤ vec_capacity outputs.new }
+{
+    let _ = outputs.push(output);
+}
+
+/// Puts what is sent on the link behind `sends`, and all else behind `others`, where there is room for all of them.
+fn sort(all: Vec<Output>, sends: &mut Vec<Output>, others: &mut Vec<Output>)
+    ensures sends { length sends.old.items + length all.items ≤ vec_capacity sends.old
+        → sends.new.items ≡ sends.old.items ++ sends_in all.items }
+    ensures others { length others.old.items + length all.items ≤ vec_capacity others.old
+        → others.new.items ≡ others.old.items ++ others_in all.items }
+{
+    for output in all {
+        if is_send(&output) {
+            put(output, sends);
+        } else {
+            put(output, others);
+        }
+    }
+}
+
+/// The cause of the last Closed.
+fn last_cause_in(outputs: &[Output]) -> Option<LinkCause>
+    ensures { result ≡ last_cause outputs.now }
+{
+    let mut last = None;
+    for output in outputs {
+        if let Output::Closed { cause } = output {
+            last = Some(*cause);
+        }
+    }
+    last
+}
+
+impl<C: Clock> AgentDesk<C> {
+    /// A desk before any turn, which ends its run at the moment `until`, in milliseconds. The core is new.
+    pub fn new(alloc: Global, core: Core, clock: C, until: u64) -> AgentDesk<C>
+        ensures { (base : RunBase) → StandsFor core [] → core.config ≡ base.config → until ≡ base.until
+            → HasRead (C.readings clock) base.before [] → StandsBy C.readings result base [] }
+    {
+        AgentDesk {
+            alloc,
+            core,
+            clock,
+            until,
+            moment: 0,
+            outbox: Vec::new(alloc),
+            closed: None,
+            left: false,
+            entries: 0,
+        }
+    }
+}
+
+/// At a Drain, what was sent on the link, and from then on nothing.
+fn hand_over(alloc: Global, outbox: &mut Vec<Output>, drained: bool) -> Vec<Output>
+    ensures sends { result.items ≡ handed_over drained outbox.old.items }
+    ensures drained { drained ≡ true → outbox.new.items ≡ [] }
+    ensures kept { drained ≡ false → outbox.new ≡ outbox.old }
+{
+    if drained {
+        mem::replace(outbox, Vec::new(alloc))
+    } else {
+        Vec::new(alloc)
+    }
+}
+
+/// The cause of the last Closed, unless a link began after it.
+fn next_cause(begun: bool, before: Option<LinkCause>, outputs: &[Output]) -> Option<LinkCause>
+    ensures { result ≡ closed_with begun before outputs.now }
+{
+    match last_cause_in(outputs) {
+        Some(cause) => Some(cause),
+        None => { if begun { None } else { before } }
+    }
+}
+
+/// What is left of a desk.
+pub(crate) struct DeskEnd<C> {
+    pub clock: C,
+    /// How many turns had an answer. It stops at 2^64 - 1.
+    pub entries: u64,
+    /// Why the link was closed, where it was and none began since.
+    pub closed: Option<LinkCause>,
+}
+
+impl<C> AgentDesk<C> {
+    pub(crate) fn into_end(self) -> DeskEnd<C>
+        ensures { result ≡ record { clock = self.clock; entries = self.entries; closed = self.closed } }
+    {
+        DeskEnd {
+            clock: self.clock,
+            entries: self.entries,
+            closed: self.closed,
+        }
+    }
+
+    /// How many things may go out for an event at this moment.
+    fn most_outputs(&self, moment: u64) -> usize
+        ensures { (H : List Event) → StandsFor self.now.core H → (e : Event) → e.moment ≡ moment
+            → length (outputs_after self.now.core.config H e) ≤ result }
+    {
+        agent_core::outputs_are_few();
+        match self.core.phase() {
+            Phase::Serving => MOST_OUTPUTS,
+            _ => MOST_OUTPUTS + self.core.waiting(moment) as usize,
+        }
+    }
+
+    /// Makes room for what may go out for an event at this moment: in the outbox, and besides.
+    fn make_room(&mut self, moment: u64) -> Result<Vec<Output>, NoMemory>
+        ensures none { IfOk result (λ room. room.items ≡ []) }
+        ensures room { IfOk result (λ room. (H : List Event) → StandsFor self.old.core H → (e : Event) → e.moment ≡ moment
+            → HasRoom (length self.new.outbox.items) (vec_capacity self.new.outbox) (vec_capacity room) (outputs_after self.old.core.config H e)) }
+        ensures same { IsSame self.old self.new }
+    {
+        let most = self.most_outputs(moment);
+        self.outbox.reserve(most)?;
+        Ok(Vec::with_capacity(self.alloc, most)?)
+    }
+
+    /// Enters what the core gave for an input, where there is room for all of it.
+    fn enter(
+        &mut self,
+        moment: u64,
+        ask: &Input,
+        begun: bool,
+        all: Vec<Output>,
+        room: Vec<Output>,
+    ) -> Heard
+        ensures { room.items ≡ [] → HasRoom (length self.old.outbox.items) (vec_capacity self.old.outbox) (vec_capacity room) all.items → IsCalm (drain_test ask.now) begun all.items
+            → Enters self.old self.new moment ask.now begun all.items result }
+    {
+        let drained = is_drain(ask);
+        let sends = hand_over(self.alloc, &mut self.outbox, drained);
+        self.closed = next_cause(begun, self.closed, all.as_slice());
+        if begun {
+            self.outbox.clear();
+        }
+        let mut others = room;
+        sort(all, &mut self.outbox, &mut others);
+        self.left |= is_leave(ask);
+        self.moment = moment;
+        self.entries = self.entries.saturating_add(1);
+        Heard {
+            moment,
+            outputs: Outputs::from_vec(others),
+            sends: Outputs::from_vec(sends),
+            finished: self.left || self.until <= moment,
+            closed: self.closed,
+        }
+    }
+}
+
+impl<C: Clock> Desk for AgentDesk<C> {
+    type Ask = Input;
+
+    type Answer = Heard;
+
+    type Refusal = NoMemory;
+
+    type Base = RunBase;
+
+    ghost stands = { StandsBy C.readings };
+
+    ghost refuses = { λ ask refusal. Unit {0} };
+
+    fn step(&mut self, ask: &Input) -> Result<Heard, NoMemory> {
+        agent_core::past_goes_on();
+        let moment = self.moment.max(self.clock.now());
+        let room = self.make_room(moment)?;
+        let begun = self.core.begins(ask);
+        let all = self.core.step(self.alloc, moment, ask)?;
+        Ok(self.enter(moment, ask, begun, all.into_vec(), room))
+    }
+}

@@ -1,0 +1,139 @@
+//! The writer of a link.
+
+ghost use Rattle.std.specs.Prelude.{◌≡◌, [], ◌∷◌, true, false, None, IfSome, IfNone};
+ghost use Rattle.turnstile.specs.Passes.{known, table_of};
+ghost use Rattle.agent_server.specs.LinkWriting.{GoesFor, SentOn, TakesLeave, TookLeave, WroteLink, WroteRound};
+
+use crate::desk::AgentDesk;
+use crate::heard::Heard;
+use crate::turns::{enter, is_final};
+use agent_core::{Input, Output};
+use peer_machine::LinkCause;
+use std::sync::Wait;
+use turnstile::{Pass, Turnstile};
+use wire_core::Put;
+use wire_devices::{Clock, LinkOut};
+
+/// How a writer went from its link.
+#[derive(Clone, Copy, Debug, PartialEq, Eq)]
+pub(crate) enum WriterEnd {
+    /// The link was closed for this cause.
+    Closed { cause: LinkCause },
+    /// The agent took its leave, and what was still to be sent was drained and sent.
+    Done,
+    /// Memory was wanting for that.
+    NoMemory,
+}
+
+/// The cause for which a writer goes after this answer. It goes for any, but where the run is finished for Refused and Left
+/// alone: for another it takes the agent's leave.
+fn goes_for(heard: &Heard) -> Option<LinkCause>
+    ensures cause { IfSome result (λ cause. GoesFor cause heard.now) }
+    ensures leave { IfNone result (heard.now.finished ≡ true → TakesLeave heard.now) }
+    ensures none { IfNone result (heard.now.finished ≡ false → heard.now.closed ≡ None) }
+{
+    match heard.closed {
+        Some(cause) => {
+            if is_final(cause) || !heard.finished {
+                Some(cause)
+            } else {
+                None
+            }
+        }
+        None => None,
+    }
+}
+
+/// Sends this on the link, where it is a message. It says whether no send failed.
+fn send_one<O: LinkOut>(link: &mut O, output: &Output) -> bool
+    ensures { SentOn result (output.now ∷ []) (O.told link.old) (O.told link.new) }
+{
+    match output {
+        Output::Send { octets } => matches!(link.send(octets.as_slice()), Put::Done),
+        _ => true,
+    }
+}
+
+/// Sends these on the link, in order, until a send fails. It says whether none failed.
+fn send_all<O: LinkOut>(link: &mut O, outputs: &[Output]) -> bool
+    ensures { SentOn result outputs.now (O.told link.old) (O.told link.new) }
+{
+    for output in outputs {
+        if !send_one(link, output) {
+            return false;
+        }
+    }
+    true
+}
+
+/// One round: drains, and sends what is handed over, where the link is sound. Where a send fails it isn't sound any more, and
+/// a visit says so.
+fn drain<R: Wait, C: Clock, O: LinkOut>(
+    rt: &R,
+    turnstile: &Turnstile<AgentDesk<C>>,
+    pass: &mut Pass<AgentDesk<C>>,
+    link: &mut O,
+    sound: &mut bool,
+) -> Option<Heard>
+    requires { table_of pass.old ≡ turnstile.now }
+    ensures table { table_of pass.new ≡ table_of pass.old }
+    ensures wrote { WroteRound result sound.old sound.new (known pass.old) (known pass.new) (O.told link.old) (O.told link.new) }
+{
+    let heard = enter(rt, turnstile, pass, &Input::Drain)?;
+    if *sound && !send_all(link, heard.sends.as_slice()) {
+        *sound = false;
+        let _ = enter(rt, turnstile, pass, &Input::Down);
+    }
+    Some(heard)
+}
+
+/// Takes the agent's leave, and drains once more.
+fn leave<R: Wait, C: Clock, O: LinkOut>(
+    rt: &R,
+    turnstile: &Turnstile<AgentDesk<C>>,
+    pass: &mut Pass<AgentDesk<C>>,
+    link: &mut O,
+    sound: &mut bool,
+) -> WriterEnd
+    requires { table_of pass.old ≡ turnstile.now }
+    ensures table { table_of pass.new ≡ table_of pass.old }
+    ensures took { TookLeave result sound.old sound.new (known pass.old) (known pass.new) (O.told link.old) (O.told link.new) }
+{
+    let Some(_) = enter(rt, turnstile, pass, &Input::Leave) else {
+        return WriterEnd::NoMemory;
+    };
+    match drain(rt, turnstile, pass, link, sound) {
+        Some(_) => WriterEnd::Done,
+        None => WriterEnd::NoMemory,
+    }
+}
+
+/// Drains and sends round by round, until the link is closed. Where the run is finished it takes the agent's leave.
+pub(crate) fn write_link<R: Wait, C: Clock, O: LinkOut>(
+    rt: &R,
+    turnstile: &Turnstile<AgentDesk<C>>,
+    pass: &mut Pass<AgentDesk<C>>,
+    link: &mut O,
+) -> WriterEnd
+    requires { table_of pass.old ≡ turnstile.now }
+    ensures table { table_of pass.new ≡ table_of pass.old }
+    ensures wrote { WroteLink result (known pass.old) (known pass.new) (O.told link.old) (O.told link.new) }
+{
+    let mut sound = true;
+    for _ in rt.forever() {
+        let Some(heard) = drain(rt, turnstile, pass, link, &mut sound) else {
+            link.rest();
+            continue;
+        };
+        if let Some(cause) = goes_for(&heard) {
+            return WriterEnd::Closed { cause };
+        }
+        if heard.finished {
+            return leave(rt, turnstile, pass, link, &mut sound);
+        }
+        if heard.sends.as_slice().is_empty() {
+            link.rest();
+        }
+    }
+    unreachable!()
+}

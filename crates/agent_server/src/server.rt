@@ -1,0 +1,712 @@
+//! The server: one core, at which the writer of the link and its workers take turns.
+
+ghost use Rattle.std.specs.Prelude.{◌≡◌, ◌≤◌, ◌⊎◌, ℕ, List, [], ◌∷◌, length, vec_capacity, IfOk, IfErr, IfSome, IfNone, IsSome, MatchResult, None};
+ghost use Rattle.std.specs.Arc.{arc_value};
+ghost use Rattle.wire_core.specs.Counts.{Rose};
+ghost use Rattle.radius_packet.specs.declared.reasons.Via.TheVariants.{Auth, Acct};
+ghost use Rattle.agent_config.specs.Config.{InLimits};
+ghost use Rattle.agent_status.specs.declared.status.Status.TheVariants.{NoThread, OutOfMemory};
+ghost use Rattle.wire_devices.specs.Dialling.{Dials};
+ghost use Rattle.wire_devices.specs.Sockets.{Socket};
+ghost use Rattle.turnstile.specs.declared.view.Known.{Known};
+ghost use Rattle.turnstile.specs.Knowing.{Carries};
+ghost use Rattle.turnstile.specs.Passes.{known, table_of};
+ghost use Rattle.turnstile.specs.Turns.{of};
+ghost use Rattle.agent_server.specs.Desks.{HasRead, StandsBy};
+ghost use Rattle.agent_server.specs.Entries.{ticks};
+ghost use Rattle.agent_server.specs.Running.{RoseBy, StartedAs};
+ghost use Rattle.agent_server.specs.Server.{EndsEarly, Served, status_given};
+ghost use Rattle.agent_server.specs.Starting.{Alike, AllDone, FirstFails, FirstOpened, IsAt, IsLinkReader, IsRead, IsReader, IsReady, IsSocketBack, IsSocketWorker, IsStart, StartsFor};
+ghost use Rattle.agent_server.specs.Workers.{CanRun};
+
+use crate::desk::{AgentDesk, DeskEnd, RunBase};
+use crate::heard::Heard;
+use crate::link_making::{Dialling, dial};
+use crate::running::{Live, MOST_LINKS, Past, ReaderBack, RunEnd, Twins, reader_back, serve_links};
+use crate::trail::{Links, Pair, Trail};
+use crate::turns::enter;
+use crate::workers::{Ended, Shared, Worker};
+use agent_config::Config;
+use agent_core::{Core, Input};
+use agent_status::Status;
+use peer_machine::LinkCause;
+use radius_packet::Via;
+use std::alloc::Global;
+use std::hash::RandomState;
+use std::sync::{Arc, Wait};
+use turnstile::{Pass, PassOf, Turnstile, Unstarted};
+use wire_devices::{Clock, Crew, Datagrams, Dialer, LinkIn, LinkOut, ThreadHelper};
+
+/// The outside of the agent: a clock, a socket for logins and one for accounting, what makes links to the home server, and
+/// what runs the workers.
+pub struct World<C, D, L, W> {
+    pub clock: C,
+    pub auth: D,
+    pub acct: D,
+    pub dialer: L,
+    pub crew: W,
+}
+
+/// How a run ended, and what is left of it. `trail` is there where all workers were started at first.
+pub struct Finish<C, D, L: Dialer, W> {
+    pub status: Status,
+    pub world: World<C, D, L, W>,
+    pub trail: Option<Trail<C, D, L::In, L::Out>>,
+    pub home: Option<Pair<L::In, L::Out>>,
+}
+
+/// How a run ended, but for what only its writer holds.
+struct Outcome<C, D, I, O> {
+    status: Status,
+    clock: C,
+    auth: D,
+    acct: D,
+    trail: Option<Trail<C, D, I, O>>,
+}
+
+/// A turnstile that was started, with a share of it for each worker, and room for the links.
+struct Stand<C: Clock, I, O> {
+    turnstile: Shared<C>,
+    auth_share: Shared<C>,
+    acct_share: Shared<C>,
+    link_share: Shared<C>,
+    pass: Pass<AgentDesk<C>>,
+    pairs: Vec<Pair<I, O>>,
+}
+
+/// A share of the turnstile for each of three workers.
+fn shares<C: Clock + Drop>(turnstile: &Shared<C>) -> Option<(Shared<C>, Shared<C>, Shared<C>)>
+    ensures { IfSome result (λ r. (arc_value r.0 ≡ arc_value turnstile.now) × (arc_value r.1 ≡ arc_value turnstile.now) × (arc_value r.2 ≡ arc_value turnstile.now)) }
+{
+    let auth = Arc::try_clone(turnstile).ok()?;
+    let acct = Arc::try_clone(turnstile).ok()?;
+    let link = Arc::try_clone(turnstile).ok()?;
+    Some((auth, acct, link))
+}
+
+/// Ends a turnstile at which nobody else is, and gives its clock.
+fn clock_of<C: Clock + Drop>(turnstile: &Turnstile<AgentDesk<C>>, pass: Pass<AgentDesk<C>>) -> C
+    requires table { table_of pass ≡ turnstile.now }
+    requires all { length (known pass).numbers ≡ 4 }
+    ensures { (base : RunBase) → Carries (StandsBy C.readings) (known pass) base → IsRead C.readings result base (known pass).seen }
+{
+    let (desk, _) = turnstile.close(pass);
+    let DeskEnd {
+        clock,
+        entries: _,
+        closed: _,
+    } = desk.into_end();
+    clock
+}
+
+/// Makes all that a run wants before its first link. Without memory the clock comes back.
+fn prepare<C: Clock + Drop, I, O>(
+    alloc: Global,
+    random: RandomState,
+    config: Config,
+    clock: C,
+    until: u64,
+) -> Result<Stand<C, I, O>, C>
+where
+    I: Drop,
+    O: Drop,
+    requires { InLimits config }
+    ensures ready { IfOk result IsReady }
+    ensures carries { (base : RunBase) → config ≡ base.config → until ≡ base.until → HasRead (C.readings clock) base.before []
+        → IfOk result (λ stand. Carries (StandsBy C.readings) (known stand.pass) base) }
+{
+    let Ok(pairs) = Vec::with_capacity(alloc, MOST_LINKS) else {
+        return Err(clock);
+    };
+    let Ok(core) = Core::new(alloc, random, config) else {
+        return Err(clock);
+    };
+    match Turnstile::start(alloc, AgentDesk::new(alloc, core, clock, until)) {
+        Ok((turnstile, pass)) => share(alloc, turnstile, pass, pairs),
+        Err(Unstarted { desk, cause: _ }) => {
+            let DeskEnd {
+                clock,
+                entries: _,
+                closed: _,
+            } = desk.into_end();
+            Err(clock)
+        }
+    }
+}
+
+/// Shares a turnstile that was started. Without memory the clock comes back.
+fn share<C: Clock + Drop, I: Drop, O: Drop>(
+    alloc: Global,
+    turnstile: Turnstile<AgentDesk<C>>,
+    pass: Pass<AgentDesk<C>>,
+    pairs: Vec<Pair<I, O>>,
+) -> Result<Stand<C, I, O>, C>
+    requires table { table_of pass ≡ turnstile }
+    requires numbers { (known pass).numbers ≡ 0 ∷ 1 ∷ 2 ∷ 3 ∷ [] }
+    requires seen { (known pass).seen ≡ [] }
+    requires pairs { (pairs.items ≡ []) × (256 ≤ vec_capacity pairs) }
+    ensures ready { IfOk result IsReady }
+    ensures same { IfOk result (λ stand. stand.pass ≡ pass) }
+{
+    let turnstile = match Arc::new(alloc, turnstile) {
+        Ok(turnstile) => turnstile,
+        Err(refused) => return Err(clock_of(&refused.value, pass)),
+    };
+    match shares(&turnstile) {
+        Some((auth_share, acct_share, link_share)) => Ok(Stand {
+            turnstile,
+            auth_share,
+            acct_share,
+            link_share,
+            pass,
+            pairs,
+        }),
+        None => Err(clock_of(&turnstile, pass)),
+    }
+}
+
+/// The first link, opened, and a twin of each socket.
+struct FirstLink<D, I, O> {
+    pair: Pair<I, O>,
+    twins: Twins<D>,
+}
+
+/// Makes the first link and opens it, and makes the twins of the sockets. Else it says how the run ends.
+fn first_link<R, C, D, L>(
+    rt: &R,
+    turnstile: &Shared<C>,
+    pass: &mut Pass<AgentDesk<C>>,
+    dialer: &mut L,
+    auth: &mut D,
+    acct: &mut D,
+) -> Result<FirstLink<D, L::In, L::Out>, Status>
+where
+    R: Wait,
+    C: Clock,
+    D: Datagrams + Drop,
+    L: Dialer,
+    L::In: Drop,
+    L::Out: Drop,
+    requires table { table_of pass.old ≡ arc_value turnstile.now }
+    requires numbers { (known pass.old).numbers ≡ 0 ∷ 1 ∷ 2 ∷ 3 ∷ [] }
+    requires seen { (known pass.old).seen ≡ [] }
+    requires row { (L.told dialer.old).row ≡ 0 }
+    ensures table { table_of pass.new ≡ table_of pass.old }
+    ensures same { ((known pass.new).first ≡ (known pass.old).first) × ((known pass.new).numbers ≡ (known pass.old).numbers) }
+    ensures opened { IfOk result (λ first. FirstOpened L.In.told L.Out.told D.told first (known pass.new).seen (L.told dialer.old) (L.told dialer.new)) }
+    ensures alike { IfOk result (λ first. Alike (D.told auth.old) (D.told auth.new) × Alike (D.told acct.old) (D.told acct.new)) }
+    ensures failed { IfErr result (λ status. FirstFails status (known pass.new).seen (L.told dialer.new)
+        (Rose (D.told auth.old).faults (D.told auth.new).faults ⊎ Rose (D.told acct.old).faults (D.told acct.new).faults)) }
+{
+    let pair = match dial(rt, turnstile, pass, dialer) {
+        Dialling::Made { link_in, link_out } => Pair { link_in, link_out },
+        Dialling::Finished => return Err(Status::LinkFault),
+        Dialling::Failed => {
+            let _ = enter(rt, turnstile, pass, &Input::Leave);
+            return Err(Status::LinkFault);
+        }
+    };
+    let Some(_) = enter(rt, turnstile, pass, &Input::Up) else {
+        let _ = enter(rt, turnstile, pass, &Input::Leave);
+        return Err(Status::OutOfMemory);
+    };
+    let Some(auth) = auth.twin() else {
+        return Err(Status::DatagramFault);
+    };
+    let Some(acct) = acct.twin() else {
+        return Err(Status::DatagramFault);
+    };
+    Ok(FirstLink {
+        pair,
+        twins: Twins { auth, acct },
+    })
+}
+
+/// A worker that was started, or wasn't.
+type Start<C, D, I> = Result<ThreadHelper<Worker<C, D, I>>, Worker<C, D, I>>;
+
+/// The three workers of a run.
+struct Team<C, D, I>
+where
+    C: Clock + Send + Drop + 'static,
+    D: Datagrams + Send + Drop + 'static,
+    I: LinkIn + Send + Drop + 'static,
+{
+    auth: ThreadHelper<Worker<C, D, I>>,
+    acct: ThreadHelper<Worker<C, D, I>>,
+    link: ThreadHelper<Worker<C, D, I>>,
+}
+
+/// The workers of a run of which one couldn't be started.
+struct Unteamed<C, D, I>
+where
+    C: Clock + Send + Drop + 'static,
+    D: Datagrams + Send + Drop + 'static,
+    I: LinkIn + Send + Drop + 'static,
+{
+    auth: Start<C, D, I>,
+    acct: Start<C, D, I>,
+    link: Worker<C, D, I>,
+}
+
+/// Starts the three workers. After one that can't be started no other is.
+fn start_team<C, D, I, W>(
+    crew: &mut W,
+    auth: Worker<C, D, I>,
+    acct: Worker<C, D, I>,
+    link: Worker<C, D, I>,
+) -> Result<Team<C, D, I>, Unteamed<C, D, I>>
+where
+    C: Clock + Send + Drop + 'static,
+    D: Datagrams + Send + Drop + 'static,
+    I: LinkIn + Send + Drop + 'static,
+    W: Crew<Worker<C, D, I>>,
+    requires { CanRun D.told I.told auth × CanRun D.told I.told acct × CanRun D.told I.told link }
+    ensures ok { IfOk result (λ team. (team.auth ≡ auth) × (team.acct ≡ acct) × (team.link ≡ link)) }
+    ensures unrefused { IfOk result (λ team. W.faults crew.new ≡ W.faults crew.old) }
+    ensures err { IfErr result (λ team. IsStart auth team.auth × IsStart acct team.acct × (team.link ≡ link)) }
+    ensures refused { IfErr result (λ team. Rose (W.faults crew.old) (W.faults crew.new)) }
+{
+    let auth = match crew.start(auth) {
+        Ok(helper) => helper,
+        Err(auth) => {
+            return Err(Unteamed {
+                auth: Err(auth),
+                acct: Err(acct),
+                link,
+            });
+        }
+    };
+    let acct = match crew.start(acct) {
+        Ok(helper) => helper,
+        Err(acct) => {
+            return Err(Unteamed {
+                auth: Ok(auth),
+                acct: Err(acct),
+                link,
+            });
+        }
+    };
+    match crew.start(link) {
+        Ok(link) => Ok(Team { auth, acct, link }),
+        Err(link) => Err(Unteamed {
+            auth: Ok(auth),
+            acct: Ok(acct),
+            link,
+        }),
+    }
+}
+
+/// What the reader of a socket gives back.
+#[derive(Drop)]
+struct SocketBack<C, D> {
+    pass: PassOf<AgentDesk<C>, Input, Heard>,
+    socket: D,
+    lost: u64,
+    failed: bool,
+}
+
+/// The reader of a socket that was finished, or never started.
+fn socket_back<C, D, I, W>(crew: &mut W, reader: Start<C, D, I>) -> SocketBack<C, D>
+where
+    C: Clock + Send + Drop + 'static,
+    D: Datagrams + Send + Drop + 'static,
+    I: LinkIn + Send + Drop + 'static,
+    W: Crew<Worker<C, D, I>>,
+    requires { MatchResult reader IsSocketWorker IsSocketWorker }
+    ensures back { IsSocketBack D.told reader result }
+    ensures faults { W.faults crew.new ≡ W.faults crew.old }
+{
+    match reader {
+        Ok(helper) => match crew.finish(helper) {
+            Ended::Reader {
+                socket,
+                pass,
+                lost,
+                fault,
+            } => SocketBack {
+                pass,
+                socket,
+                lost,
+                failed: fault.is_some(),
+            },
+            Ended::Link { .. } => unreachable!(),
+        },
+        Err(
+            Worker::Reader {
+                alloc: _,
+                turnstile: _,
+                pass,
+                via: _,
+                socket,
+            },
+        ) => SocketBack {
+            pass,
+            socket,
+            lost: 0,
+            failed: false,
+        },
+        Err(Worker::Link { .. }) => unreachable!(),
+    }
+}
+
+/// Ends a run of which a worker couldn't be started at first.
+fn disband<R, C, D, I, O, W>(
+    rt: &R,
+    turnstile: &Shared<C>,
+    mut pass: Pass<AgentDesk<C>>,
+    crew: &mut W,
+    team: Unteamed<C, D, I>,
+) -> Outcome<C, D, I, O>
+where
+    R: Wait,
+    C: Clock + Send + Drop + 'static,
+    D: Datagrams + Send + Drop + 'static,
+    I: LinkIn + Send + Drop + 'static,
+    W: Crew<Worker<C, D, I>>,
+    requires own { IsAt (arc_value turnstile.now) 0 (table_of pass) (known pass) }
+    requires auth { MatchResult team.auth (IsReader (arc_value turnstile.now) 1) (IsReader (arc_value turnstile.now) 1) }
+    requires acct { MatchResult team.acct (IsReader (arc_value turnstile.now) 2) (IsReader (arc_value turnstile.now) 2) }
+    requires link { IsLinkReader (arc_value turnstile.now) 3 team.link }
+    ensures ends { (result.status ≡ NoThread) × (result.trail ≡ None) }
+    ensures faults { W.faults crew.new ≡ W.faults crew.old }
+{
+    let _ = enter(rt, turnstile, &mut pass, &Input::Leave);
+    let Unteamed { auth, acct, link } = team;
+    let link = reader_back(crew, Err(link));
+    let auth = socket_back(crew, auth);
+    let acct = socket_back(crew, acct);
+    let ReaderBack {
+        pass: link_pass,
+        ..
+    } = link;
+    let SocketBack {
+        pass: auth_pass,
+        socket: auth,
+        ..
+    } = auth;
+    let SocketBack {
+        pass: acct_pass,
+        socket: acct,
+        ..
+    } = acct;
+    turnstile.join(&mut pass, link_pass);
+    turnstile.join(&mut pass, auth_pass);
+    turnstile.join(&mut pass, acct_pass);
+    Outcome {
+        status: Status::NoThread,
+        clock: clock_of(turnstile, pass),
+        auth,
+        acct,
+        trail: None,
+    }
+}
+
+/// The status of a run whose workers were started: the first that stands, of the writer's end, the failures of the sockets,
+/// and the cause for which the last of so many links was closed.
+fn status_of(end: RunEnd, socket_failed: bool, closed: Option<LinkCause>, links: usize) -> Status
+    ensures { result ≡ status_given end socket_failed closed links }
+{
+    match end {
+        RunEnd::NoMemory => Status::OutOfMemory,
+        RunEnd::NoThread => Status::NoThread,
+        _ if socket_failed => Status::DatagramFault,
+        RunEnd::LinkFault => Status::LinkFault,
+        _ => match closed {
+            Some(LinkCause::Refused { result: code }) => Status::PeerRefused { result: code },
+            Some(LinkCause::Left) | None => Status::Done,
+            Some(cause) => {
+                if links >= MOST_LINKS {
+                    Status::LinkEnded { cause }
+                } else {
+                    Status::Done
+                }
+            }
+        },
+    }
+}
+
+/// Serves with a whole team, and ends the run.
+fn lead<R, C, D, L, W>(
+    rt: &R,
+    alloc: Global,
+    turnstile: &Shared<C>,
+    mut pass: Pass<AgentDesk<C>>,
+    dialer: &mut L,
+    crew: &mut W,
+    team: Team<C, D, L::In>,
+    link_out: L::Out,
+    mut past: Past<L::In, L::Out>,
+) -> Outcome<C, D, L::In, L::Out>
+where
+    R: Wait,
+    C: Clock + Send + Drop + 'static,
+    D: Datagrams + Send + Drop + 'static,
+    L: Dialer,
+    L::In: Send + Drop + 'static,
+    W: Crew<Worker<C, D, L::In>>,
+    requires table { table_of pass ≡ arc_value turnstile.now }
+    requires row { (L.told dialer.old).row ≡ 0 }
+    requires started { StartedAs L.In.told L.Out.told D.told (arc_value turnstile.now) (known pass) team.link link_out past }
+    requires readers { IsReader (arc_value turnstile.now) 1 team.auth × IsReader (arc_value turnstile.now) 2 team.acct }
+    ensures some { IsSome result.trail }
+    ensures served { (base : RunBase) (dials : Dials) (auth acct : Socket) → Carries (StandsBy C.readings) (known pass) base
+        → RoseBy (ticks (of 0 (known pass).seen)) dials.faults (L.told dialer.old).faults
+        → StartsFor D.told Auth 1 (known pass) auth team.auth → StartsFor D.told Acct 2 (known pass) acct team.acct
+        → IfSome result.trail (λ trail. Served C.readings D.told L.In.told L.Out.told base.config base.until base.before auth acct (D.told result.auth) (D.told result.acct)
+        dials (L.told dialer.new) (Rose (W.faults crew.old) (W.faults crew.new)) result.clock trail result.status) }
+{
+    let Team { auth, acct, link } = team;
+    let first = Live {
+        helper: link,
+        link_out,
+    };
+    let (end, twins) = serve_links(
+        rt, alloc, turnstile, &mut pass, dialer, crew, first, &mut past,
+    );
+    let auth = socket_back(crew, Ok(auth));
+    let acct = socket_back(crew, Ok(acct));
+    conclude(turnstile, pass, end, twins, past, auth, acct)
+}
+
+/// Joins the passes of the sockets' readers, closes the turnstile, and says how the run ended.
+fn conclude<C, D, I, O>(
+    turnstile: &Shared<C>,
+    mut pass: Pass<AgentDesk<C>>,
+    end: RunEnd,
+    twins: Twins<D>,
+    past: Past<I, O>,
+    auth: SocketBack<C, D>,
+    acct: SocketBack<C, D>,
+) -> Outcome<C, D, I, O>
+where
+    C: Clock + Drop,
+    D: Datagrams,
+    I: LinkIn,
+    O: LinkOut,
+    requires table { table_of pass ≡ arc_value turnstile.now }
+    requires numbers { (known pass).numbers ≡ 0 ∷ 3 ∷ [] }
+    requires auth { IsAt (arc_value turnstile.now) 1 (table_of auth.pass) (known auth.pass) }
+    requires acct { IsAt (arc_value turnstile.now) 2 (table_of acct.pass) (known acct.pass) }
+    ensures some { IsSome result.trail }
+    ensures served { (base : RunBase) (first then last : Dials) (starts now : ℕ) (auth_socket acct_socket : Socket) (k : Known (AgentDesk C) Input Heard)
+        → AllDone C.readings D.told I.told O.told base first then last starts now auth_socket acct_socket k (known pass) end twins past auth acct
+        → IfSome result.trail (λ trail. Served C.readings D.told I.told O.told base.config base.until base.before auth_socket acct_socket (D.told result.auth) (D.told result.acct)
+        first last (Rose starts now) result.clock trail result.status) }
+{
+    let SocketBack {
+        pass: auth_pass,
+        socket: auth,
+        lost: auth_lost,
+        failed: auth_failed,
+    } = auth;
+    let SocketBack {
+        pass: acct_pass,
+        socket: acct,
+        lost: acct_lost,
+        failed: acct_failed,
+    } = acct;
+    turnstile.join(&mut pass, auth_pass);
+    turnstile.join(&mut pass, acct_pass);
+    let (desk, turns) = turnstile.close(pass);
+    let DeskEnd {
+        clock,
+        entries,
+        closed,
+    } = desk.into_end();
+    let Past { pairs, lost, again } = past;
+    let Twins {
+        auth: auth_twin,
+        acct: acct_twin,
+    } = twins;
+    let lost = lost.saturating_add(auth_lost).saturating_add(acct_lost);
+    Outcome {
+        status: status_of(end, auth_failed | acct_failed, closed, pairs.len()),
+        clock,
+        auth,
+        acct,
+        trail: Some(Trail {
+            turns,
+            entries,
+            lost,
+            again,
+            auth_twin,
+            acct_twin,
+            links: Links::from_vec(pairs),
+        }),
+    }
+}
+
+/// Runs from a turnstile that was started.
+fn run<R, C, D, L, W>(
+    rt: &R,
+    alloc: Global,
+    stand: Stand<C, L::In, L::Out>,
+    mut auth: D,
+    mut acct: D,
+    dialer: &mut L,
+    crew: &mut W,
+) -> Outcome<C, D, L::In, L::Out>
+where
+    R: Wait,
+    C: Clock + Send + Drop + 'static,
+    D: Datagrams + Send + Drop + 'static,
+    L: Dialer,
+    L::In: Send + Drop + 'static,
+    L::Out: Drop,
+    W: Crew<Worker<C, D, L::In>>,
+    requires ready { IsReady stand }
+    requires rows { ((D.told auth).row ≡ 0) × ((D.told acct).row ≡ 0) × ((L.told dialer.old).row ≡ 0) }
+    ensures served { (base : RunBase) → Carries (StandsBy C.readings) (known stand.pass) base
+        → IfSome result.trail (λ trail. Served C.readings D.told L.In.told L.Out.told base.config base.until base.before (D.told auth) (D.told acct) (D.told result.auth) (D.told result.acct)
+        (L.told dialer.old) (L.told dialer.new) (Rose (W.faults crew.old) (W.faults crew.new)) result.clock trail result.status) }
+    ensures early { (base : RunBase) → Carries (StandsBy C.readings) (known stand.pass) base
+        → IfNone result.trail (EndsEarly result.status (C.readings result.clock) base.until (L.told dialer.new)
+        (Rose (D.told auth).faults (D.told result.auth).faults ⊎ Rose (D.told acct).faults (D.told result.acct).faults)
+        (Rose (W.faults crew.old) (W.faults crew.new))) }
+{
+    let Stand {
+        turnstile,
+        auth_share,
+        acct_share,
+        link_share,
+        mut pass,
+        pairs,
+    } = stand;
+    let FirstLink {
+        pair: Pair { link_in, link_out },
+        twins,
+    } = match first_link(rt, &turnstile, &mut pass, dialer, &mut auth, &mut acct) {
+        Ok(first) => first,
+        Err(status) => {
+            return Outcome {
+                status,
+                clock: clock_of(&turnstile, pass),
+                auth,
+                acct,
+                trail: None,
+            };
+        }
+    };
+    let Twins {
+        auth: auth_twin,
+        acct: acct_twin,
+    } = twins;
+    let link = Worker::Link {
+        alloc,
+        turnstile: link_share,
+        pass: turnstile.split(&mut pass),
+        link: link_in,
+        auth_twin,
+        acct_twin,
+    };
+    let acct = Worker::Reader {
+        alloc,
+        turnstile: acct_share,
+        pass: turnstile.split(&mut pass),
+        via: Via::Acct,
+        socket: acct,
+    };
+    let auth = Worker::Reader {
+        alloc,
+        turnstile: auth_share,
+        pass: turnstile.split(&mut pass),
+        via: Via::Auth,
+        socket: auth,
+    };
+    match start_team(crew, auth, acct, link) {
+        Ok(team) => {
+            let past = Past {
+                pairs,
+                lost: 0,
+                again: 0,
+            };
+            lead(
+                rt, alloc, &turnstile, pass, dialer, crew, team, link_out, past,
+            )
+        }
+        Err(team) => disband(rt, &turnstile, pass, crew, team),
+    }
+}
+
+/// Ends a run for which there was no memory.
+fn unready<C, D, L: Dialer, W>(world: World<C, D, L, W>) -> Finish<C, D, L, W>
+    ensures { result ≡ record { status = OutOfMemory; world = world; trail = None; home = None } }
+{
+    Finish {
+        status: Status::OutOfMemory,
+        world,
+        trail: None,
+        home: None,
+    }
+}
+
+/// Serves RADIUS clients by the home server, up to the moment `until` of the clock, in milliseconds. Its own thread is the
+/// writer of the link; the reader of each socket and of the present link are workers of the crew.
+pub fn serve<R, C, D, L, W>(
+    rt: &R,
+    alloc: Global,
+    random: RandomState,
+    config: Config,
+    world: World<C, D, L, W>,
+    until: u64,
+) -> Finish<C, D, L, W>
+where
+    R: Wait,
+    C: Clock + Send + Drop + 'static,
+    D: Datagrams + Send + Drop + 'static,
+    L: Dialer,
+    L::In: Send + Drop + 'static,
+    L::Out: Drop,
+    W: Crew<Worker<C, D, L::In>>,
+    requires limits { InLimits config }
+    requires rows { ((D.told world.auth).row ≡ 0) × ((D.told world.acct).row ≡ 0) × ((L.told world.dialer).row ≡ 0) }
+    ensures home { result.home ≡ None }
+    ensures served { (before : List ℕ) → HasRead (C.readings world.clock) before []
+        → IfSome result.trail (λ trail. Served C.readings D.told L.In.told L.Out.told config until before (D.told world.auth) (D.told world.acct)
+        (D.told result.world.auth) (D.told result.world.acct) (L.told world.dialer) (L.told result.world.dialer)
+        (Rose (W.faults world.crew) (W.faults result.world.crew)) result.world.clock trail result.status) }
+    ensures early { (before : List ℕ) → HasRead (C.readings world.clock) before []
+        → IfNone result.trail (EndsEarly result.status (C.readings result.world.clock) until (L.told result.world.dialer)
+        (Rose (D.told world.auth).faults (D.told result.world.auth).faults ⊎ Rose (D.told world.acct).faults (D.told result.world.acct).faults)
+        (Rose (W.faults world.crew) (W.faults result.world.crew))) }
+{
+    let World {
+        clock,
+        auth,
+        acct,
+        mut dialer,
+        mut crew,
+    } = world;
+    let stand = match prepare(alloc, random, config, clock, until) {
+        Ok(stand) => stand,
+        Err(clock) => {
+            return unready(World {
+                clock,
+                auth,
+                acct,
+                dialer,
+                crew,
+            });
+        }
+    };
+    let Outcome {
+        status,
+        clock,
+        auth,
+        acct,
+        trail,
+    } = run(rt, alloc, stand, auth, acct, &mut dialer, &mut crew);
+    Finish {
+        status,
+        world: World {
+            clock,
+            auth,
+            acct,
+            dialer,
+            crew,
+        },
+        trail,
+        home: None,
+    }
+}

@@ -1,0 +1,77 @@
+//! Turns at a desk.
+
+ghost use Rattle.std.specs.Prelude.{IfOk};
+ghost use Rattle.agent_config.specs.Config.{InLimits};
+
+use crate::{AgentDesk, Heard};
+use agent_config::{Clients, Config, is_in_limits};
+use agent_core::{Core, Input};
+use peer_machine::LinkCause;
+use std::alloc::Global;
+use std::hash::RandomState;
+use std::test::Fail;
+use turnstile::Desk;
+use wire_core::{NoMemory, Octets};
+use wire_devices::MemoryClock;
+
+mod failing_devices;
+mod links;
+pub(crate) mod octets;
+mod runs;
+mod sockets;
+mod waiting;
+
+/// Settings without clients.
+fn settings(alloc: Global) -> Result<Config, NoMemory>
+    ensures { IfOk result InLimits }
+{
+    let config = Config {
+        host: Octets::copy(alloc, b"agent.example")?,
+        realm: Octets::copy(alloc, b"example")?,
+        home_realm: Octets::copy(alloc, b"example")?,
+        address: 0xc000_0201,
+        boot: Some(7),
+        retention: 30_000,
+        patience: 30_000,
+        capacity: 64,
+        backlog: 64,
+        watchdog: 30_000,
+        clients: Clients::new(alloc),
+    };
+    if !is_in_limits(&config) {
+        return Err(NoMemory);
+    }
+    Ok(config)
+}
+
+/// What a turn answered, in short: the moment, how much went out and was handed over, whether the run is at its end, and
+/// whether the link is closed as ended.
+fn told(heard: &Heard) -> (u64, usize, usize, bool, bool) {
+    (
+        heard.moment,
+        heard.outputs.as_slice().len(),
+        heard.sends.as_slice().len(),
+        heard.finished,
+        heard.closed == Some(LinkCause::Ended),
+    )
+}
+
+// The clock goes back once. The capabilities go out at the Up, and are handed over at the Drain; a Down closes the link,
+// until the next Up; the last reading is at the end of the run.
+#[test]
+fn turns_at_a_desk(rt: HostRuntime) -> Result<(), Fail> {
+    let core = Core::new(rt.alloc(), RandomState::new(&rt)?, settings(rt.alloc())?)?;
+    let clock = MemoryClock::new(vec![in rt.alloc(); 10, 20, 15, 30, 40, 50]?);
+    let mut desk = AgentDesk::new(rt.alloc(), core, clock, 50);
+    for (input, wanted) in [
+        (Input::Up, (10, 0, 0, false, false)),
+        (Input::Drain, (20, 0, 1, false, false)),
+        (Input::Drain, (20, 0, 0, false, false)),
+        (Input::Down, (30, 1, 0, false, true)),
+        (Input::Up, (40, 0, 0, false, false)),
+        (Input::Drain, (50, 0, 1, true, false)),
+    ] {
+        assert_eq!(&rt; told(&desk.step(&input)?), wanted);
+    }
+    Ok(())
+}
