@@ -1,13 +1,14 @@
 -- Octets cut at a separator, and the lines of a text.
-use Rattle.std.proofs.Common.{◌≡◌, ℕ, ◌+◌, ◌-◌, ◌<◌, ◌≤◌, ◌⊎◌, inl, inr, Bool, true, false, not, cond, eqb, ltb, ◌||◌, List, [], ◌∷◌, ◌++◌, length, take, drop, Option, Some, None, unwrap_or, position, refl, sym, ap, ◌∙◌, subst, arith}
+use Rattle.std.proofs.Common.{◌≡◌, ℕ, ◌+◌, ◌-◌, ◌<◌, ◌≤◌, ◌⊎◌, inl, inr, Bool, true, false, not, cond, eqb, ltb, List, [], ◌∷◌, ◌++◌, length, take, drop, Option, Some, None, unwrap_or, position, refl, sym, ap, ◌∙◌, subst, arith}
 use Rattle.std.specs.Borrow.{Bor}
-use Rattle.std.specs.List.{join_with_byte, list_any, slice_split, onto_first, position_or_len}
+use Rattle.std.specs.List.{join_with_byte, list_any, onto_first, position_or_len}
 use Rattle.std.specs.Option.{option_copied}
 use Rattle.std.proofs.lemmas.Bool.{eq-eqb, eqb-true, ltb-false, ltb-true, ne_eqb, or_parts}
 use Rattle.std.proofs.lemmas.List.{take_rest}
 use Rattle.std.proofs.lemmas.List.Splits.{join_with_byte-slice_split, slice_split_first}
 use Rattle.std.proofs.lemmas.Option.{cond_some}
 use Rattle.test_peers.specs.Lines.{ended, lines_of, pieces_of, two_of}
+use Rattle.test_peers.specs.PacketLines.{one_of}
 use Rattle.test_peers.specs.UserForm.{HasNone}
 use Rattle.test_peers.specs.Views.{pieces_left}
 
@@ -119,6 +120,11 @@ line_left text line (Some rest) last none some e = lines-more text line rest.now
 pub two_of_more : (first second : List ℕ) (pieces : List (List ℕ)) → 0 < length pieces → two_of (first ∷ second ∷ pieces) ≡ None
 two_of_more first second [] some = absurd (omega arith)
 two_of_more first second (piece ∷ pieces) some = refl
+
+-- more than one word isn't one
+pub one_of_more : (word : List ℕ) (pieces : List (List ℕ)) → 0 < length pieces → one_of (word ∷ pieces) ≡ None
+one_of_more word [] some = absurd (omega arith)
+one_of_more word (piece ∷ pieces) some = refl
 
 -- ---- a text's first line
 

@@ -7,11 +7,13 @@ mod finding;
 mod home;
 mod lines;
 mod nas;
+mod packet_lines;
 mod users;
 
 pub use fault::HomeFault;
 pub use home::Home;
 pub use nas::{Nas, NasOutput};
+pub use packet_lines::{LineFault, packet_in_line};
 
 #[cfg(test)]
 mod tests;

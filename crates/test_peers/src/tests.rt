@@ -152,3 +152,32 @@ fn takes_its_reply(rt: HostRuntime) -> Result<(), Fail> {
     assert_eq!(rt; nas.step(1200, Some(REPLY)), NasOutput::Reply);
     Ok(())
 }
+
+// The octets of the line's packet, or why there is none; 9 where memory is wanting.
+fn packet_of(alloc: Global, line: &[u8]) -> Result<Octets, u32> {
+    match packet_in_line(alloc, line) {
+        Ok(octets) => Ok(octets),
+        Err(LineFault::Bad { reason }) => Err(reason),
+        Err(LineFault::NoMemory) => Err(9),
+    }
+}
+
+#[test]
+fn reads_a_packet_of_a_line(rt: HostRuntime) -> Result<(), Fail> {
+    let line: &[u8] = b"0200001486FE220e7624ba2a1005f6bf9b55e0b2";
+    let packet = packet_in_line(rt.alloc(), line)?;
+    assert_eq!(rt; packet.as_slice(), REPLY);
+    let rows: [(&[u8], u32); 5] = [
+        (b"", 3),
+        (b"-", 3),
+        (b"0200 ", 2),
+        (b"020000140", 3),
+        (&line[..38], 3),
+    ];
+    for (line, reason) in rows {
+        assert!(rt; matches!(packet_of(rt.alloc(), line), Err(found) if found == reason));
+    }
+    let long = vec![in rt.alloc(); b' '; 140_001]?;
+    assert!(rt; matches!(packet_of(rt.alloc(), &long), Err(1)));
+    Ok(())
+}

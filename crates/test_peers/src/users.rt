@@ -10,14 +10,14 @@ use std::alloc::Global;
 use wire_core::{NoMemory, Octets};
 
 /// How many octets a line has at most.
-const LONGEST_LINE: usize = 140_000;
+pub(crate) const LONGEST_LINE: usize = 140_000;
 
 /// The reasons why a line is no user's.
-const TOO_LONG: u32 = 1;
+pub(crate) const TOO_LONG: u32 = 1;
 
 const NOT_TWO_WORDS: u32 = 2;
 
-const BAD_WORD: u32 = 3;
+pub(crate) const BAD_WORD: u32 = 3;
 
 /// A user and the password that lets them in.
 #[derive(Debug, Drop)]
@@ -27,7 +27,7 @@ pub(crate) struct User {
 }
 
 /// Octets in hex, or `-` for none.
-fn read_hex(alloc: Global, word: &[u8]) -> Result<Option<Octets>, NoMemory>
+pub(crate) fn read_hex(alloc: Global, word: &[u8]) -> Result<Option<Octets>, NoMemory>
     ensures { IfOk result (λ read. read ≡ hex_word word.now) }
 {
     if word == b"-".as_slice() {

@@ -9,8 +9,8 @@ use std::marker::Model;
 use std::net::{Ipv4Addr, Net, TcpListener, TcpStream};
 use std::{io, rt};
 
-/// A listener of std, of IPv4. It makes one link, from the first connection, for which it waits. Where it couldn't be
-/// opened each dial gives None.
+/// A listener of std, of IPv4. It makes one link, from the first connection, for which it waits. Where it isn't opened
+/// each dial gives None.
 #[derive(Drop)]
 pub struct TcpAccepter<R> {
     rt: R,
@@ -30,13 +30,13 @@ impl<R> Model for TcpAccepter<R> {
     ghost invariant = { λ d. d.row ≤ 16 };
 }
 
-impl<R: Net<Listener = TcpListener, Stream = TcpStream>> TcpAccepter<R> {
-    /// A listener at this address and port, where it can be opened. Port 0 is one that the system chooses.
-    pub fn bind(rt: R, address: u32, port: u16) -> TcpAccepter<R>
-        ensures { result ≡ record { faults = 0; row = 0 } }
+impl<R: Net<Listener = TcpListener, Stream = TcpStream> + Copy> TcpAccepter<R> {
+    /// A listener at this address and port, or why the system opens none. Port 0 is one that the system chooses.
+    pub fn bind(rt: R, address: u32, port: u16) -> io::Result<TcpAccepter<R>>
+        ensures { IfOk result (λ accepter. accepter ≡ record { faults = 0; row = 0 }) }
     {
-        let listener = TcpListener::bind(&rt, (Ipv4Addr::from(address), port)).ok();
-        TcpAccepter::over(rt, listener)
+        let listener = TcpListener::bind(&rt, (Ipv4Addr::from(address), port))?;
+        Ok(TcpAccepter::over(rt, Some(listener)))
     }
 }
 

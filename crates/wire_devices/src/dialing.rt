@@ -4,6 +4,7 @@ ghost use Rattle.std.specs.Prelude.{◌≡◌, IfOk};
 
 use crate::devices::Dialer;
 use crate::streams::{TcpIn, TcpOut, ends_of};
+use std::io::ErrorKind;
 use std::marker::Model;
 use std::net::{IpAddr, Ipv4Addr, Net, SocketAddr, TcpListener, TcpStream};
 use std::time::Duration;
@@ -26,6 +27,7 @@ pub struct TcpDialer<R> {
     port: u16,
     // The pause after the next dial that is refused, in milliseconds.
     pause: u64,
+    refusal: Option<ErrorKind>,
     faults: u64,
     row: u8,
 }
@@ -51,9 +53,15 @@ impl<R> TcpDialer<R> {
             address,
             port,
             pause: SHORT_PAUSE,
+            refusal: None,
             faults: 0,
             row: 0,
         }
+    }
+
+    /// Why the last dial made no link, where it made none.
+    pub fn refusal(&self) -> Option<ErrorKind> {
+        self.refusal
     }
 }
 
@@ -69,10 +77,12 @@ impl<R: Net<Listener = TcpListener, Stream = TcpStream> + rt::Clock + Copy> Dial
         match connect(self.rt, self.address, self.port) {
             Ok(ends) => {
                 self.pause = SHORT_PAUSE;
+                self.refusal = None;
                 self.row = 0;
                 Some(ends)
             }
-            Err(_) => {
+            Err(error) => {
+                self.refusal = Some(error.kind());
                 thread::sleep(&self.rt, Duration::from_millis(self.pause));
                 self.pause = self.pause.saturating_mul(2).min(LONG_PAUSE);
                 self.faults = self.faults.saturating_add(1);

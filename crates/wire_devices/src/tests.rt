@@ -3,7 +3,7 @@ ghost use Rattle.std.specs.Prelude.{◌≡◌, ◌+◌, ⊤};
 use super::*;
 use std::alloc::{AllocError, Global};
 use std::collections::VecDeque;
-use std::io::{self, Read, Write};
+use std::io::{self, ErrorKind, Read, Write};
 use std::net::{Ipv4Addr, Net, TcpListener, TcpStream, UdpSocket};
 use std::sync::{Arc, Barrier, Wait};
 use std::test::Fail;
@@ -234,7 +234,7 @@ fn peer(net: &HostRuntime) -> io::Result<UdpSocket> {
 fn datagrams_over_loopback(rt: HostRuntime) -> Result<(), Fail> {
     let peer = peer(&rt)?;
     let port = peer.local_addr()?.port();
-    let mut socket = UdpDatagrams::bind(&rt, LOOPBACK, 0);
+    let mut socket = UdpDatagrams::bind(&rt, LOOPBACK, 0)?;
     let mut buf = octets(rt.alloc(), 4096)?;
     assert_eq!(rt; post(&mut socket, port, b"hi"), Put::Done);
     let (_, place) = peer.recv_from(buf.as_mut_slice())?;
@@ -262,7 +262,7 @@ fn datagrams_over_loopback(rt: HostRuntime) -> Result<(), Fail> {
 fn twin_over_loopback(rt: HostRuntime) -> Result<(), Fail> {
     let peer = peer(&rt)?;
     let port = peer.local_addr()?.port();
-    let mut socket = UdpDatagrams::bind(&rt, LOOPBACK, 0);
+    let mut socket = UdpDatagrams::bind(&rt, LOOPBACK, 0)?;
     let mut other = twin(&mut socket).ok_or("no twin")?;
     let mut buf = octets(rt.alloc(), 8)?;
     assert_eq!(rt; post(&mut socket, port, b"a"), Put::Done);
@@ -270,11 +270,12 @@ fn twin_over_loopback(rt: HostRuntime) -> Result<(), Fail> {
     assert_eq!(rt; post(&mut other, port, b"b"), Put::Done);
     let (_, second) = peer.recv_from(buf.as_mut_slice())?;
     assert_eq!(rt; first.port(), second.port());
-    let mut closed = UdpDatagrams::bind(&rt, LOOPBACK, first.port());
+    let in_use = UdpDatagrams::bind(&rt, LOOPBACK, first.port()).err();
+    assert_eq!(rt; in_use.map(|e| e.kind()), Some(ErrorKind::AddrInUse));
+    let mut closed = UdpDatagrams::closed();
     assert_eq!(rt; look(&mut closed, buf.as_mut_slice()), Took::Failed);
     assert_eq!(rt; post(&mut closed, port, b"c"), Put::Failed);
     assert!(rt; twin(&mut closed).is_none());
-    assert!(rt; twin(&mut UdpDatagrams::closed()).is_none());
     Ok(())
 }
 
@@ -307,6 +308,7 @@ fn refused_dial_over_loopback(rt: HostRuntime) -> Result<(), Fail> {
     let mut dialer = TcpDialer::new(rt, LOOPBACK, port);
     let before = Instant::now(&rt)?;
     assert!(rt; dial(&mut dialer).is_none());
+    assert_eq!(rt; dialer.refusal(), Some(ErrorKind::ConnectionRefused));
     assert!(rt; before.elapsed(&rt)? >= Duration::from_millis(100));
     Ok(())
 }
@@ -315,15 +317,14 @@ fn refused_dial_over_loopback(rt: HostRuntime) -> Result<(), Fail> {
 #[test]
 fn accepted_over_loopback(rt: HostRuntime) -> Result<(), Fail> {
     let port = listener(&rt)?.local_addr()?.port();
-    let mut accepter = TcpAccepter::bind(rt, LOOPBACK, port);
-    let mut second = TcpAccepter::bind(rt, LOOPBACK, port);
+    let mut accepter = TcpAccepter::bind(rt, LOOPBACK, port)?;
+    assert!(rt; TcpAccepter::bind(rt, LOOPBACK, port).is_err());
     let mut peer = TcpStream::connect(&rt, (Ipv4Addr::from(LOOPBACK), port))?;
     let (mut link_in, _link_out) = dial(&mut accepter).ok_or("no link")?;
     peer.write_all(b"hi")?;
     let mut buf = octets(rt.alloc(), 8)?;
     assert_eq!(rt; hear(&mut link_in, buf.as_mut_slice()), LinkGot::Bytes(2));
     assert!(rt; dial(&mut accepter).is_none());
-    assert!(rt; dial(&mut second).is_none());
     assert!(rt; dial(&mut TcpAccepter::closed(rt)).is_none());
     Ok(())
 }

@@ -1,7 +1,7 @@
 //! std's socket for datagrams. It tells nothing of content: what the network gives and takes is trusted, and so are these
 //! few lines.
 
-ghost use Rattle.std.specs.Prelude.{◌≡◌, length};
+ghost use Rattle.std.specs.Prelude.{◌≡◌, length, IfOk};
 ghost use Rattle.wire_devices.specs.Forms.{told_of_counts};
 ghost use Rattle.wire_devices.specs.Sockets.{Fits};
 
@@ -16,7 +16,7 @@ use wire_core::Put;
 // How long a look waits at most, in milliseconds.
 pub(crate) const LOOK: u64 = 100;
 
-/// A socket of std, of IPv4. One that couldn't be opened fails at each call. A look waits a tenth of a second at most.
+/// A socket of std, of IPv4. One that isn't opened fails at each call. A look waits a tenth of a second at most.
 #[derive(Drop)]
 pub struct UdpDatagrams {
     socket: Option<UdpSocket>,
@@ -36,11 +36,13 @@ impl Model for UdpDatagrams {
 }
 
 impl UdpDatagrams {
-    /// A socket at this address and port, where it can be opened. Port 0 is one that the system chooses.
-    pub fn bind<R: Net>(net: &R, address: u32, port: u16) -> UdpDatagrams
-        ensures { result ≡ record { faults = 0; row = 0 } }
+    /// A socket at this address and port, or why the system opens none. Port 0 is one that the system chooses.
+    pub fn bind<R: Net>(net: &R, address: u32, port: u16) -> io::Result<UdpDatagrams>
+        ensures { IfOk result (λ socket. socket ≡ record { faults = 0; row = 0 }) }
     {
-        UdpDatagrams::over(socket_at(net, address, port).ok())
+        let socket = UdpSocket::bind(net, (Ipv4Addr::from(address), port))?;
+        socket.set_read_timeout(Some(Duration::from_millis(LOOK)))?;
+        Ok(UdpDatagrams::over(Some(socket)))
     }
 
     /// A socket that isn't opened.
@@ -107,12 +109,6 @@ impl Datagrams for UdpDatagrams {
             }
         }
     }
-}
-
-fn socket_at<R: Net>(net: &R, address: u32, port: u16) -> io::Result<UdpSocket> {
-    let socket = UdpSocket::bind(net, (Ipv4Addr::from(address), port))?;
-    socket.set_read_timeout(Some(Duration::from_millis(LOOK)))?;
-    Ok(socket)
 }
 
 // One look at the socket.
