@@ -1,7 +1,7 @@
 -- What a run was, once all workers are done.
-use Rattle.std.proofs.Common.{◌≡◌, ◌≢◌, ℕ, zero, suc, ◌+◌, ◌-◌, ◌^◌, ◌<◌, ◌==◌, inl, inr, min, Bool, false, cond, ◌||◌, List, [], ◌∷◌, ◌++◌, length, Option, Some, Ok, refl, sym, ap, ◌∙◌, subst, append_assoc, eq-eqb, arith}
+use Rattle.std.proofs.Common.{◌≡◌, ◌≢◌, ℕ, zero, suc, ◌+◌, ◌-◌, ◌^◌, ◌<◌, ◌≤◌, ◌==◌, inl, inr, min, Bool, false, cond, ◌||◌, List, [], ◌∷◌, ◌++◌, length, Option, Some, Ok, refl, sym, ap, ◌∙◌, subst, append_assoc, eq-eqb, arith}
 use Rattle.std.specs.List.{All}
-use Rattle.std.proofs.lemmas.List.Elements.{All-head, All-tail}
+use Rattle.std.proofs.lemmas.List.Elements.{All-head}
 use Rattle.std.proofs.lemmas.List.Sums.{sum_by-append}
 use Rattle.wire_core.specs.Counts.{Rose}
 use Rattle.radius_packet.specs.declared.reasons.Via.{Via}
@@ -31,13 +31,13 @@ use Rattle.agent_server.specs.declared.workers.Worker.{Worker}
 use Rattle.agent_server.specs.declared.workers.Worker.TheVariants as worker
 use Rattle.agent_server.specs.Desks.{HasRead, StandsBy}
 use Rattle.agent_server.specs.Entries.{RunTurn, is_entry_of, is_tick, replies, replies_by, ticks}
-use Rattle.agent_server.specs.LinkReading as link
+use Rattle.agent_server.specs.LinkReading.{LinkMayTake}
 use Rattle.agent_server.specs.Running.{Ends, LateDrainsAreEmpty, RoseBy, RunOver}
 use Rattle.agent_server.specs.Server.{Served, status_given}
-use Rattle.agent_server.specs.SocketReading.{ReadsSocket}
-use Rattle.agent_server.specs.SocketReading as socket
+use Rattle.agent_server.specs.SocketReading.{AddsAtLeast, ReadsSocket, ServedSocket, SocketMayTake}
 use Rattle.agent_server.specs.Spans.{ServerTurn, is_beginning}
 use Rattle.agent_server.specs.Starting.{Alike, AllDone, IsSocketBack, SocketDone, StartsFor}
+use Rattle.agent_server.proofs.AskingLemmas.{All-right}
 use Rattle.agent_server.proofs.DialLemmas.{rose-on}
 use Rattle.agent_server.proofs.FinalLemmas.{final, over-wider}
 use Rattle.agent_server.proofs.LateDrains.{late-empty}
@@ -48,22 +48,18 @@ use Rattle.agent_server.proofs.TurnLemmas.{of-append}
 here-of : (n : ℕ) (x : RunTurn) (back : List ServerTurn) → of n ((n, x) ∷ back) ≡ x ∷ of n back
 here-of n x back = ap (λ b. cond b (x ∷ of n back) (of n back)) (eq-eqb n n refl)
 
-all-after : (P : RunTurn → Type 0) (xs ys : List RunTurn) → All P (xs ++ ys) → All P ys
-all-after P [] ys all = all
-all-after P (x ∷ xs) ys all = all-after P xs ys (All-tail P x (xs ++ ys) all)
-
 -- what holds of each turn of a number holds of the one that stands there
 at-number : (P : RunTurn → Type 0) (n : ℕ) (turns front back : List ServerTurn) (x : RunTurn) → turns ≡ front ++ (n, x) ∷ back → All P (of n turns) → P x
 at-number P n turns front back x is all =
     let e : of n turns ≡ of n front ++ x ∷ of n back =
     ap (of n) is ∙ of-append n front ((n, x) ∷ back) ∙ ap (λ l. of n front ++ l) (here-of n x back) in
-    All-head P x (of n back) (all-after P (of n front) (x ∷ of n back) (subst (All P) e all))
+    All-head P x (of n back) (All-right P (of n front) (x ∷ of n back) (subst (All P) e all))
 
 number-there : (front back : List ServerTurn) (n : ℕ) (x : RunTurn) → Numbered (front ++ (n, x) ∷ back) → n < 4
 number-there [] back n x numbered = numbered.0
 number-there (t ∷ front) back n x numbered = number-there front back n x numbered.1
 
-socket-keeps : (via : Via) (row : ℕ) (ask : Input) (heard : Heard) → socket.MayTake via row (Some (ask, heard)) → is_beginning ask ≡ false
+socket-keeps : (via : Via) (row : ℕ) (ask : Input) (heard : Heard) → SocketMayTake via row (Some (ask, heard)) → is_beginning ask ≡ false
 socket-keeps via row (inputs.Datagram port address from octets) heard may = refl
 socket-keeps via row inputs.Tick heard may = refl
 socket-keeps via row inputs.Leave heard may = refl
@@ -74,7 +70,7 @@ socket-keeps via row inputs.Drain heard may = refl
 socket-keeps via row (inputs.Message octets) heard may = refl
 socket-keeps via row (inputs.Broken fault) heard may = refl
 
-link-keeps : (ask : Input) (heard : Heard) → link.MayTake (Some (ask, heard)) → is_beginning ask ≡ false
+link-keeps : (ask : Input) (heard : Heard) → LinkMayTake (Some (ask, heard)) → is_beginning ask ≡ false
 link-keeps (inputs.Datagram port address from octets) heard may = refl
 link-keeps inputs.Tick heard may = refl
 link-keeps inputs.Leave heard may = refl
@@ -86,16 +82,16 @@ link-keeps (inputs.Message octets) heard may = refl
 link-keeps (inputs.Broken fault) heard may = refl
 
 -- nobody but the writer begins a link
-others-keep : (a c : ℕ) (turns : List ServerTurn) → Numbered turns → All (socket.MayTake Auth a) (of 1 turns) → All (socket.MayTake Acct c) (of 2 turns)
-    → All link.MayTake (of 3 turns) → (n : ℕ) (ask : Input) (heard : Heard) (front back : List ServerTurn) → turns ≡ front ++ (n, Some (ask, heard)) ∷ back
+others-keep : (a c : ℕ) (turns : List ServerTurn) → Numbered turns → All (SocketMayTake Auth a) (of 1 turns) → All (SocketMayTake Acct c) (of 2 turns)
+    → All LinkMayTake (of 3 turns) → (n : ℕ) (ask : Input) (heard : Heard) (front back : List ServerTurn) → turns ≡ front ++ (n, Some (ask, heard)) ∷ back
     → n ≢ 0 → is_beginning ask ≡ false
 others-keep a c turns numbered auth acct links zero ask heard front back is other = absurd (other refl)
 others-keep a c turns numbered auth acct links (suc zero) ask heard front back is other =
-    socket-keeps Auth a ask heard (at-number (socket.MayTake Auth a) 1 turns front back (Some (ask, heard)) is auth)
+    socket-keeps Auth a ask heard (at-number (SocketMayTake Auth a) 1 turns front back (Some (ask, heard)) is auth)
 others-keep a c turns numbered auth acct links (suc (suc zero)) ask heard front back is other =
-    socket-keeps Acct c ask heard (at-number (socket.MayTake Acct c) 2 turns front back (Some (ask, heard)) is acct)
+    socket-keeps Acct c ask heard (at-number (SocketMayTake Acct c) 2 turns front back (Some (ask, heard)) is acct)
 others-keep a c turns numbered auth acct links (suc (suc (suc zero))) ask heard front back is other =
-    link-keeps ask heard (at-number link.MayTake 3 turns front back (Some (ask, heard)) is links)
+    link-keeps ask heard (at-number LinkMayTake 3 turns front back (Some (ask, heard)) is links)
 others-keep a c turns numbered auth acct links (suc (suc (suc (suc n)))) ask heard front back is other =
     let low = number-there front back (suc (suc (suc (suc n)))) (Some (ask, heard)) (subst Numbered is numbered) in
     absurd (omega (arith, low))
@@ -103,15 +99,17 @@ others-keep a c turns numbered auth acct links (suc (suc (suc (suc n)))) ask hea
 -- ---- the readers of sockets
 
 -- what a reader did from a socket of which twins were made, it did from the socket before
-socket-before : (via : Via) (mine : List RunTurn) (s t u : Socket) (out : ℕ) → Alike s t → socket.ServedSocket via mine t u out → socket.ServedSocket via mine s u out
+socket-before : (via : Via) (mine : List RunTurn) (s t u : Socket) (out : ℕ) → Alike s t → ServedSocket via mine t u out → ServedSocket via mine s u out
 socket-before via mine s t u out alike served = record {
   reads = record {
     got = served.reads.got;
     received = subst (λ told. Adds told u.received served.reads.got) alike.received served.reads.received;
     entered = served.reads.entered;
     handed = subst (λ told. Adds told u.handed (replies mine)) alike.handed served.reads.handed;
-    idle = subst (λ told. socket.AddsAtLeast told u.idle (ticks mine)) alike.idle served.reads.idle;
+    idle = subst (λ told. AddsAtLeast told u.idle (ticks mine)) alike.idle served.reads.idle;
     asks = served.reads.asks;
+    grows = omega (arith, served.reads.grows, alike.faults.never_falls);
+    failed = λ more. let rose = served.reads.failed (omega (arith, more, alike.row)) in omega (arith, rose, alike.faults.never_falls);
   };
   last = served.last;
 }
@@ -129,9 +127,9 @@ module _ {C D : Type 0} (told : D → Socket) (via : Via) (n : ℕ) (k : Known (
       ∙ ap (λ s. of n s ++ done.reads.mine) done.begun.seen ∙ ap (λ os. os ++ done.reads.mine) done.begun.none
 
   reader-served : (turns : List ServerTurn) → of n turns ≡ done.reads.mine
-      → socket.ServedSocket via (of n turns) before (told back.socket) done.reads.out
+      → ServedSocket via (of n turns) before (told back.socket) done.reads.out
   reader-served turns own =
-      subst (λ ts. socket.ServedSocket via ts before (told back.socket) done.reads.out) (sym own)
+      subst (λ ts. ServedSocket via ts before (told back.socket) done.reads.out) (sym own)
       (socket-before via done.reads.mine before done.made (told back.socket) done.reads.out done.begun.alike done.reads.served)
 
 -- ---- the turns at the end
@@ -214,7 +212,7 @@ module _ {C D I O : Type 0} (readings : C → Option (List ℕ)) (told : D → S
       let auth_served = reader-served told Auth 1 k auth auth_back a ts (ap (of 1) same ∙ t.auth ∙ reader-own told Auth 1 k auth auth_back a) in
       let acct_served = reader-served told Acct 2 k acct acct_back c ts (ap (of 2) same ∙ t.acct ∙ reader-own told Acct 2 k acct acct_back c) in
       let keep = others-keep (told auth_back.socket).row (told acct_back.socket).row ts numbered auth_served.reads.asks acct_served.reads.asks
-      (subst (All link.MayTake) (sym links) ends.reads) in
+      (subst (All LinkMayTake) (sym links) ends.reads) in
       let late = late-empty base.config base.until ts stands.run keep in
       let over = subst (λ (ps : List (Pair I O)). RunOver hears speaks end dials''.row (Rose starts starts') ps ts ends.out ends.retries) (sym closes.links)
       (over-wider hears speaks end dials''.row (Rose starts starts') past.pairs.items k'.seen ts ends.out ends.retries begins own links
@@ -246,6 +244,9 @@ module _ {C D I O : Type 0} (readings : C → Option (List ℕ)) (told : D → S
         lost = lost-all trail.lost past.lost auth_back.lost acct_back.lost ends.out a.reads.out c.reads.out ends.tally.lost a.reads.lost_is c.reads.lost_is closes.lost;
         again = closes.again ∙ ends.tally.again;
         dialled = dialled-all (of 0 k.seen) ends.ticked.more (of 0 ts) dials.faults dials'.faults dials''.faults (own ∙ ends.ticked.whole) done.dialled ends.ticked.counted;
+        auth_failed = λ full. auth_served.reads.failed (omega (arith, a.begun.row, full));
+        acct_failed = λ full. acct_served.reads.failed (omega (arith, c.begun.row, full));
+        dials_failed = λ full. let rose = ends.failed full in omega (arith, rose, done.grows);
         because = finals.because;
         given = finals.given;
         leaves = finals.leaves;
@@ -267,15 +268,16 @@ module _ {C D : Type 0} (told : D → Socket) where
   pub all-done : {I O : Type 0} (readings : C → Option (List ℕ)) (hears : I → Inlet) (speaks : O → Outlet) (base : RunBase) (dials dials' dials'' : Dials)
       (starts middle starts' : ℕ) (auth acct : Socket) (k k' : Known (AgentDesk C) Input Heard) (end : RunEnd) (twins : Twins D) (past : Past I O)
       (auth_reader acct_reader : Worker C D I) (auth_back acct_back : SocketBack C D)
-      → Carries (StandsBy readings) k base → RoseBy (ticks (of 0 k.seen)) dials.faults dials'.faults
+      → Carries (StandsBy readings) k base → RoseBy (ticks (of 0 k.seen)) dials.faults dials'.faults → dials.faults ≤ dials'.faults
       → Ends hears speaks told end dials' dials'' (Rose starts middle) k k' twins past → starts' ≡ middle
       → StartsFor told Auth 1 k auth auth_reader → StartsFor told Acct 2 k acct acct_reader
       → IsSocketBack told (Ok auth_reader) auth_back → IsSocketBack told (Ok acct_reader) acct_back
       → AllDone readings told hears speaks base dials dials' dials'' starts starts' auth acct k k' end twins past auth_back acct_back
   all-done readings hears speaks base dials dials' dials'' starts middle starts' auth acct k k' end twins past auth_reader acct_reader auth_back acct_back
-      carries dialled ends same auth_starts acct_starts auth_is acct_is = record {
+      carries dialled grows ends same auth_starts acct_starts auth_is acct_is = record {
         carries = carries;
         dialled = dialled;
+        grows = grows;
         ends = subst (λ (n : ℕ). Ends hears speaks told end dials' dials'' (Rose starts n) k k' twins past) (sym same) ends;
         auth_done = socket-done Auth 1 k auth auth_reader auth_back auth_starts auth_is;
         acct_done = socket-done Acct 2 k acct acct_reader acct_back acct_starts acct_is;

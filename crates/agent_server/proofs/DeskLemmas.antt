@@ -1,8 +1,8 @@
 -- How a desk stands for one more turn.
-use Rattle.std.proofs.Common.{◌≡◌, ℕ, ◌+◌, ◌-◌, ◌^◌, ◌≤◌, max, min, Bool, true, false, ◌||◌, nat_le, List, [], ◌∷◌, ◌++◌, length, Option, Some, None, Result, Ok, Err, refl, sym, ap, ◌∙◌, subst, append_assoc, arith}
-use Rattle.std.proofs.lemmas.List.{append-nil, length-append}
+use Rattle.std.proofs.Common.{◌≡◌, ℕ, ◌-◌, ◌^◌, ◌≤◌, max, min, Bool, ◌||◌, nat_le, List, [], ◌∷◌, ◌++◌, length, Option, Some, None, Result, Ok, Err, refl, sym, ap, ◌∙◌, subst, append_assoc, arith}
+use Rattle.std.proofs.lemmas.List.{length-append}
 use Rattle.wire_core.specs.Counts.{one_more}
-use Rattle.wire_devices.specs.Telling.{Adds, more}
+use Rattle.wire_devices.specs.Telling.{Adds}
 use Rattle.agent_config.specs.declared.config.Config.{Config}
 use Rattle.peer_machine.specs.declared.LinkCause.{LinkCause}
 use Rattle.agent_core.specs.declared.events.Input.{Input}
@@ -19,7 +19,7 @@ use Rattle.agent_server.specs.declared.desk.AgentDesk.{AgentDesk}
 use Rattle.agent_server.specs.declared.desk.RunBase.{RunBase}
 use Rattle.agent_server.specs.declared.heard.Heard.{Heard}
 use Rattle.agent_server.specs.Desks.{AreRead, Enters, HasRead, IsCalm, IsSame, StandsBy}
-use Rattle.agent_server.specs.Runs.{IsRun, IsRunFrom, closed, closed_with, event_of, handed_over, has_left, heard_at, history, is_leave, others_in, places_of, unsent, unsent_with}
+use Rattle.agent_server.specs.Runs.{IsRunFrom, closed, closed_with, event_of, handed_over, has_left, heard_at, history, is_leave, others_in, places_of, unsent, unsent_with}
 use Rattle.agent_server.proofs.PlaceLemmas.{place-at}
 
 -- ---- histories of runs

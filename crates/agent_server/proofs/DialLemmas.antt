@@ -1,6 +1,6 @@
 -- How a dialling goes on from dial to dial.
-use Rattle.std.proofs.Common.{◌≡◌, ℕ, ◌+◌, ◌-◌, ◌^◌, ◌<◌, ◌≤◌, min, Bool, true, false, List, [], ◌∷◌, ◌++◌, length, Option, Some, None, refl, sym, ap, ◌∙◌, subst, length-append, arith}
-use Rattle.wire_core.specs.Counts.{Counts, one_more}
+use Rattle.std.proofs.Common.{◌≡◌, ℕ, ◌+◌, ◌<◌, ◌≤◌, Bool, true, List, [], ◌∷◌, ◌++◌, length, Some, None, refl, sym, ap, ◌∙◌, subst, length-append, arith}
+use Rattle.wire_core.specs.Counts.{Rose, one_more}
 use Rattle.wire_devices.specs.Dialling.{Dials, Dialled as DialledOnce}
 use Rattle.wire_devices.specs.Links.{Inlet, IsFreshInlet, IsFreshOutlet, Outlet}
 use Rattle.agent_core.specs.declared.events.Input.{Input}
@@ -44,10 +44,21 @@ module _ {C : Type 0} where
     pub asks : EachEntry IsTicks mine
     pub many : length mine ≡ count
     pub faults : RoseBy count before.faults now.faults
+    pub grows : before.faults ≤ now.faults
+    pub failed : 0 < count → Rose before.faults now.faults
     pub row : now.row ≡ count
 
   pub dialling-none : (k : Known (AgentDesk C) Input Heard) (d : Dials) → d.row ≡ 0 → Dialling k k d d 0
-  dialling-none k d low = record { mine = []; went = went-none k; asks = tt; many = refl; faults = rose-none d.faults d.faults refl; row = low }
+  dialling-none k d low = record {
+    mine = [];
+    went = went-none k;
+    asks = tt;
+    many = refl;
+    faults = rose-none d.faults d.faults refl;
+    grows = omega arith;
+    failed = λ some. absurd (omega (arith, some));
+    row = low;
+  }
 
   pub dialling-on : {A : Type 0} (k l m : Known (AgentDesk C) Input Heard) (d e f : Dials) (count : ℕ) (finished : Bool) (turn : RunTurn) → count < 16
       → Dialling k l d e count → DialledOnce {A = A} None e f → Went (turn ∷ []) l m → TookTick finished turn → Dialling k m d f (count + 1)
@@ -57,6 +68,8 @@ module _ {C : Type 0} where
     asks = each-append IsTicks so_far.mine (turn ∷ []) so_far.asks (tick-each finished turn took);
     many = length-append so_far.mine (turn ∷ []) ∙ ap (λ n. n + 1) so_far.many;
     faults = let one : f.faults ≡ one_more e.faults = failed.faults.rises refl in omega (arith, so_far.faults, one);
+    grows = omega (arith, so_far.grows, failed.faults.never_falls);
+    failed = λ some. let one : f.faults ≡ one_more e.faults = failed.faults.rises refl in omega (arith, so_far.grows, one);
     row = omega (arith, failed.row, so_far.row, few);
   }
 
@@ -72,6 +85,8 @@ module _ {C : Type 0} where
         record {
           asks = all.asks;
           faults = subst (λ n. RoseBy n d.faults f.faults) (sym all.many) all.faults;
+          grows = all.grows;
+          failed = λ more. all.failed (omega arith);
           ends = (omega (arith, all.row), tick-last turn so_far.mine took);
         },
       )
@@ -86,6 +101,8 @@ module _ {C : Type 0} where
     record {
       asks = so_far.asks;
       faults = let same : f.faults ≡ e.faults = once.faults.stays (λ none. cc) in omega (arith, so_far.faults, so_far.many, same);
+      grows = omega (arith, so_far.grows, once.faults.never_falls);
+      failed = λ more. absurd (omega (arith, more, once.row));
       ends = (once.row, fresh_in, fresh_out);
     },
   )
@@ -99,6 +116,8 @@ module _ {C : Type 0} where
     record {
       asks = so_far.asks;
       faults = subst (λ n. RoseBy n d.faults e.faults) (sym so_far.many) so_far.faults;
+      grows = so_far.grows;
+      failed = λ more. so_far.failed (omega arith);
       ends = so_far.row;
     },
   )

@@ -1,5 +1,6 @@
 -- Spans that grow at their end.
-use Rattle.std.proofs.Common.{◌≡◌, ℕ, suc, ◌<◌, Bool, true, false, List, [], ◌∷◌, ◌++◌, length, All, Some, refl, sym, ap, ◌∙◌, subst, append_assoc, arith}
+use Rattle.std.proofs.Common.{◌≡◌, ℕ, suc, ◌<◌, Bool, true, List, [], ◌∷◌, ◌++◌, length, All, Some, refl, sym, ap, ◌∙◌, subst, append_assoc, arith}
+use Rattle.std.proofs.lemmas.Bool.{true≢false}
 use Rattle.std.proofs.lemmas.List.{append-nil}
 use Rattle.std.proofs.lemmas.List.Elements.{All-cons, All-head, All-nil, All-tail}
 use Rattle.wire_devices.specs.Links.{Inlet, Outlet}
@@ -17,9 +18,6 @@ use Rattle.agent_server.specs.Spans.{IsClosed, ServerTurn, flat}
 use Rattle.agent_server.proofs.DialLemmas.{each-append}
 use Rattle.agent_server.proofs.TurnLemmas.{of-append}
 use Rattle.agent_server.proofs.WritingLemmas.{wrote-on}
-
-wrong : true ≡ false → ⊥
-wrong e = cc
 
 -- ---- turns that follow
 
@@ -92,6 +90,15 @@ closed-grow seg more c = record {
   goes_on = c.goes_on;
 }
 
+pub closed_for-grow : (cause : LinkCause) (seg more : List ServerTurn) → ClosedFor cause seg → ClosedFor cause (seg ++ more)
+closed_for-grow cause seg more c = record {
+  heard = c.heard;
+  front = c.front;
+  back = c.back ++ more;
+  whole = ap (λ l. l ++ more) c.whole ∙ append_assoc c.front ((0, Some (Drain, c.heard)) ∷ c.back) more;
+  closed = c.closed;
+}
+
 -- turns that hand nothing over and are no Downs
 pub wrote-still : (more : List RunTurn) (sound : Bool) (o : Outlet) → sends more ≡ [] → downs more ≡ 0 → Wrote more sound sound o o
 wrote-still more sound o nothing no_down = record {
@@ -101,19 +108,10 @@ wrote-still more sound o nothing no_down = record {
   part = (sends more, refl);
   none = λ is. (refl, is);
   quiet = λ same. (no_down, refl);
-  broke = λ was is. absurd (wrong (sym was ∙ is));
+  broke = λ was is. absurd (true≢false (sym was ∙ is));
 }
 
 module _ {I O : Type 0} (hears : I → Inlet) (speaks : O → Outlet) where
-  pub closed_for-grow : (cause : LinkCause) (seg more : List ServerTurn) → ClosedFor hears speaks cause seg → ClosedFor hears speaks cause (seg ++ more)
-  closed_for-grow cause seg more c = record {
-    heard = c.heard;
-    front = c.front;
-    back = c.back ++ more;
-    whole = ap (λ l. l ++ more) c.whole ∙ append_assoc c.front ((0, Some (Drain, c.heard)) ∷ c.back) more;
-    closed = c.closed;
-  }
-
   pub span-grow : (pair : Pair I O) (seg more : List ServerTurn) (out retries : ℕ) → MayFollow more → Span hears speaks pair seg out retries
       → Span hears speaks pair (seg ++ more) out retries
   span-grow pair seg more out retries may s =

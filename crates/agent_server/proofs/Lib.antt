@@ -1,3 +1,4 @@
+pub mod AskingLemmas
 pub mod ConcludingLemmas
 pub mod DeskLemmas
 pub mod DialLemmas
@@ -17,5 +18,6 @@ pub mod SocketReadingLemmas
 pub mod SortLemmas
 pub mod SpanLemmas
 pub mod StartingLemmas
+pub mod StatusLemmas
 pub mod TurnLemmas
 pub mod WritingLemmas

@@ -1,13 +1,11 @@
 -- What is known when a link is over.
-use Rattle.std.proofs.Common.{◌≡◌, ℕ, ◌+◌, ◌-◌, ◌^◌, ◌<◌, ◌≤◌, min, Bool, true, false, not, ◌&&◌, if◌then◌else◌, List, [], ◌∷◌, ◌++◌, length, All, Option, Some, None, Ok, refl, sym, ap, ◌∙◌, subst, append_assoc, length-append, vec_capacity, inl, inr, arith}
-use Rattle.std.proofs.lemmas.List.{append-nil, append_cancel_left}
+use Rattle.std.proofs.Common.{◌≡◌, ℕ, ◌+◌, ◌-◌, ◌^◌, min, Bool, true, false, not, ◌&&◌, if◌then◌else◌, List, [], ◌∷◌, ◌++◌, length, All, Option, Some, None, refl, sym, ap, ◌∙◌, subst, append_assoc, length-append, vec_capacity, inl, arith}
+use Rattle.std.proofs.lemmas.List.{append_cancel_left}
 use Rattle.std.proofs.lemmas.List.Elements.{All-head, All-tail}
 use Rattle.std.proofs.lemmas.Grind.{flat_map-append}
 use Rattle.atomic_table.specs.Seated.{TableId}
-use Rattle.radius_packet.specs.declared.reasons.Via.{Via}
 use Rattle.radius_packet.specs.declared.reasons.Via.TheVariants.{Auth, Acct}
 use Rattle.peer_machine.specs.declared.LinkCause.{LinkCause}
-use Rattle.wire_devices.specs.declared.devices.Datagram.{Datagram}
 use Rattle.wire_devices.specs.Links.{Inlet, Outlet}
 use Rattle.wire_devices.specs.Sockets.{Socket}
 use Rattle.wire_devices.specs.Telling.{Adds, TellsOnly}
@@ -17,7 +15,7 @@ use Rattle.agent_core.specs.declared.events.Input.TheVariants as inputs
 use Rattle.turnstile.specs.declared.view.Known.{Known}
 use Rattle.turnstile.specs.Knowing.{Joined}
 use Rattle.turnstile.specs.Passes.{known}
-use Rattle.turnstile.specs.Turns.{In, StartsWith, least, of}
+use Rattle.turnstile.specs.Turns.{In, least, of}
 use Rattle.agent_server.specs.declared.desk.AgentDesk.{AgentDesk}
 use Rattle.agent_server.specs.declared.heard.Heard.{Heard}
 use Rattle.agent_server.specs.declared.link_writer.WriterEnd.{WriterEnd}
@@ -28,17 +26,17 @@ use Rattle.agent_server.specs.declared.running.Twins.{Twins}
 use Rattle.agent_server.specs.declared.trail.Pair.{Pair}
 use Rattle.agent_server.specs.declared.workers.Worker.{Worker}
 use Rattle.agent_server.specs.declared.workers.Worker.TheVariants as worker
-use Rattle.agent_server.specs.Entries.{EachEntry, RunTurn, entry_replies, is_entry_of, is_tick, replies_by, reply_by, ticks, turn_of}
+use Rattle.agent_server.specs.Entries.{EachEntry, RunTurn, entry_replies, is_tick, replies_by, reply_by, ticks, turn_of}
 use Rattle.agent_server.specs.Going.{Went}
-use Rattle.agent_server.specs.LinkReading.{ReadsLink, ServedLink, sight}
-use Rattle.agent_server.specs.LinkWriting.{EndTurns, GoesFor, GoesOn, IsWriterAsk, LastTurns, LeaveTurns, TakesLeave, Wrote, WroteLink, round}
-use Rattle.agent_server.specs.Running.{Between, ClosedFor, EndsLink, IsBack, LastDrain, LeftAtEnd, LinkOver, NoLeave, Opened, Over, Started, StartedAs, Tally, Ticked}
+use Rattle.agent_server.specs.LinkReading.{ServedLink}
+use Rattle.agent_server.specs.LinkWriting.{IsWriterAsk, KeepsWriting, LastTurns, TakesLeave, Wrote, WroteLink, round}
+use Rattle.agent_server.specs.Running.{ClosedFor, EndsLink, LastDrain, LeftAtEnd, NoLeave, Over, ReaderRan, StartedAs}
 use Rattle.agent_server.specs.Runs.{is_leave}
-use Rattle.agent_server.specs.Serving.{AllBut, MayWrite, Span, Spanned, Spans}
+use Rattle.agent_server.specs.Serving.{AllBut, MayWrite, Span, Spans}
 use Rattle.agent_server.specs.Serving.Spans.{no_more, one_more}
 use Rattle.agent_server.specs.Spans.{IsClosed, ServerTurn, flat, is_beginning}
 use Rattle.agent_server.proofs.DialLemmas.{each-append}
-use Rattle.agent_server.proofs.TurnLemmas.{Stands, of-append, of-there, flat-push}
+use Rattle.agent_server.proofs.TurnLemmas.{of-append, of-there, flat-push}
 
 -- ---- lists
 
@@ -143,7 +141,7 @@ no-ticks (Some entry ∷ turns) (is, each) =
     let f = no-tick entry.0 is in
     rw f (omega (arith, e))
 
-stays : (ask : Input) (heard : Heard) → GoesOn ask heard → is_leave ask ≡ false
+stays : (ask : Input) (heard : Heard) → KeepsWriting ask heard → is_leave ask ≡ false
 stays inputs.Drain heard goes = refl
 stays inputs.Down heard goes = refl
 stays inputs.Leave heard goes = absurd goes
@@ -154,8 +152,8 @@ stays (inputs.Message octets) heard goes = refl
 stays (inputs.Broken fault) heard goes = refl
 stays (inputs.Datagram via address port octets) heard goes = refl
 
-quiet-rounds : (turns : List RunTurn) → EachEntry GoesOn turns → NoLeave turns
-quiet-rounds turns each = each-weaker GoesOn (λ ask heard. is_leave ask ≡ false) turns stays each
+quiet-rounds : (turns : List RunTurn) → EachEntry KeepsWriting turns → NoLeave turns
+quiet-rounds turns each = each-weaker KeepsWriting (λ ask heard. is_leave ask ≡ false) turns stays each
 
 quiet-down : (failed : Bool) (told : Option Heard) → NoLeave (if failed then turn_of inputs.Down told ∷ [] else [])
 quiet-down true None = tt
@@ -228,7 +226,7 @@ module _ (end : WriterEnd) (now : Bool) (own mine : List RunTurn) (last : LastTu
 
 module _ {I O : Type 0} (hears : I → Inlet) (speaks : O → Outlet) where
   closed-seg : (cause : LinkCause) (opened : Heard) (rest : List ServerTurn) (a b : List RunTurn) (heard : Heard) → heard.closed ≡ Some cause
-      → of 0 rest ≡ a ++ Some (inputs.Drain, heard) ∷ b → ClosedFor hears speaks cause ((0, Some (inputs.Up, opened)) ∷ rest)
+      → of 0 rest ≡ a ++ Some (inputs.Drain, heard) ∷ b → ClosedFor cause ((0, Some (inputs.Up, opened)) ∷ rest)
   closed-seg cause opened rest a b heard closed is =
       let s = of-there 0 rest a (Some (inputs.Drain, heard)) b is in
       record {
@@ -242,7 +240,7 @@ module _ {I O : Type 0} (hears : I → Inlet) (speaks : O → Outlet) where
   -- how a link ends, by the writer's last turns
   ends-link : (end : WriterEnd) (now : Bool) (segs : List (List ServerTurn)) (opened : Heard) (rest seen : List ServerTurn) (own mine : List RunTurn)
       → of 0 rest ≡ mine → of 0 seen ≡ own ++ mine → NoLeave own → LastTurns end now mine
-      → EndsLink hears speaks end (segs ++ ((0, Some (inputs.Up, opened)) ∷ rest) ∷ []) seen
+      → EndsLink end (segs ++ ((0, Some (inputs.Up, opened)) ∷ rest) ∷ []) seen
   ends-link (writer.Closed cause) now segs opened rest seen own mine is whole quiet last =
       let (goes, same, none) = last.end_turns in (
         subst NoLeave (sym whole) (each-append Stay own mine quiet (quiet-last (writer.Closed cause) now own mine last (subst NoLeave (sym none) tt))),
@@ -264,7 +262,7 @@ module _ {I O : Type 0} (hears : I → Inlet) (speaks : O → Outlet) where
         (back : ReaderBack C D I) (twins : Twins D)
         → StartedAs hears speaks told turnstile k helper link_out past
         → WroteLink end k k' (speaks link_out) (speaks link_out')
-        → IsBack told hears (Ok helper) back
+        → ReaderRan told hears helper back
         → Joined k' (known back.pass) k''
         → twins ≡ back.twins
         → past'.pairs.items ≡ past.pairs.items ++ record { link_in = back.link_in; link_out = link_out' } ∷ []
@@ -302,7 +300,7 @@ module _ {I O : Type 0} (hears : I → Inlet) (speaks : O → Outlet) where
         record {
           first = t.first;
           numbers = t.numbers;
-          ticked = record { more = wrote.mine; whole = own_now; counted = omega (arith, no-ticks wrote.mine wrote.asks) };
+          ticked = record { more = wrote.mine; whole = own_now; counted = omega (arith, no-ticks wrote.mine wrote.asks); grows = omega arith };
           out = started.out + read.out;
           retries = started.retries + read.retries;
           few = omega (arith, ap length pairs, length-push past.pairs.items pair, started.few);

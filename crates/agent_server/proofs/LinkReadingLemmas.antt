@@ -18,7 +18,7 @@ use Rattle.wire_devices.proofs.TellingLaws.{Adds-append, Adds-none, Adds-same}
 use Rattle.agent_server.specs.declared.link_reader.Visitor.{Visitor}
 use Rattle.agent_server.specs.Entries.{RunTurn, turn_of}
 use Rattle.agent_server.specs.Entries.Less.{empty}
-use Rattle.agent_server.specs.LinkReading.{AddsSome, Did, Gives, GoesOn, HoldsOnly, IsOver, MayTake, ReadsLink, Rests, Sight, SoFar, Stops, Visits, fault_inputs, framed_in, is_message, sight_of, stream_inputs}
+use Rattle.agent_server.specs.LinkReading.{AddsSome, Did, Gives, HasEnded, HeededAll, HoldsOnly, KeepsReading, LinkMayTake, ReadsLink, Sight, SoFar, Stops, Visits, fault_inputs, framed_in, is_message, sight_of, stream_inputs}
 use Rattle.agent_server.proofs.GoingLemmas.{went-none}
 use Rattle.agent_server.proofs.LinkTurnLemmas.{Beside, adds_some-same, beside-same, did-on, ends-by, ends-weaker, goes-push}
 
@@ -118,10 +118,10 @@ module _ {C D : Type 0} (told : D → Socket) (start : Sight C) (visitor : Visit
 
   -- nothing comes next
   pub waits : (framer framer' : FramerParts) → framer' ≡ without nexts.Wait framer → Gives told nexts.Wait start visitor link framer
-      → Rests told start visitor link framer'
+      → HeededAll told start visitor link framer'
   waits framer framer' same g =
       let unshown = none-shown framer.shown framer.left nexts.Wait g.is (λ fault e. cc) in
-      subst (λ (f : FramerParts). Rests told start visitor link f) (sym same) (record {
+      subst (λ (f : FramerParts). HeededAll told start visitor link f) (sym same) (record {
         mine = g.mine;
         goes = g.goes;
         got = g.got;
@@ -133,10 +133,10 @@ module _ {C D : Type 0} (told : D → Socket) (start : Sight C) (visitor : Visit
 
   -- a fault that was shown before
   pub stays-broken : (framer framer' : FramerParts) (fault : FrameFault) → framer' ≡ without (nexts.Fault fault) framer
-      → is_some framer.shown ≡ true → Gives told (nexts.Fault fault) start visitor link framer → Rests told start visitor link framer'
+      → is_some framer.shown ≡ true → Gives told (nexts.Fault fault) start visitor link framer → HeededAll told start visitor link framer'
   stays-broken framer framer' fault same some g =
       let shown = same-shown framer.shown framer.left fault g.is some in
-      subst (λ (f : FramerParts). Rests told start visitor link f) (sym same) (record {
+      subst (λ (f : FramerParts). HeededAll told start visitor link f) (sym same) (record {
         mine = g.mine;
         goes = g.goes;
         got = g.got;
@@ -152,7 +152,7 @@ module _ {C D : Type 0} (told : D → Socket) (start : Sight C) (visitor : Visit
 
   -- a piece was received
   pub brings : (count : ℕ) (buf : List ℕ) (link' : Inlet) (framer : FramerParts) → count ≢ 0 → Brought count link link' buf
-      → Rests told start visitor link framer → SoFar told (take count buf) start visitor link' framer
+      → HeededAll told start visitor link framer → SoFar told (take count buf) start visitor link' framer
   brings count buf link' framer some brought r =
       let did = r.did in
       let reads = did.reads in
@@ -192,13 +192,13 @@ module _ {C D : Type 0} (told : D → Socket) (start : Sight C) (visitor : Visit
 -- nothing was done yet
 pub rests-fresh : {C D : Type 0} (told : D → Socket) (visitor : Visitor C D) (link : Inlet) (framer : FramerParts)
     → framer ≡ record { left = []; shown = None } → StandsFor framer [] []
-    → visitor.lost ≡ 0 → visitor.again ≡ 0 → link.ends ≡ 0 → link.faults ≡ 0 → Rests told (sight_of told visitor link) visitor link framer
+    → visitor.lost ≡ 0 → visitor.again ≡ 0 → link.ends ≡ 0 → link.faults ≡ 0 → HeededAll told (sight_of told visitor link) visitor link framer
 rests-fresh told visitor link framer is stands lost again ends faults =
     let start = sight_of told visitor link in
     let shown : framer.shown ≡ None = ap (λ (f : FramerParts). f.shown) is in
     record {
       mine = [];
-      goes = All-nil GoesOn;
+      goes = All-nil KeepsReading;
       got = [];
       given = [];
       all = subst (λ (s : Option FrameFault). HoldsOnly [] [] s) (sym shown) holds-none;
@@ -217,7 +217,7 @@ rests-fresh told visitor link framer is stands lost again ends faults =
           few_ticks = omega arith;
           down = λ some. absurd (omega (arith, some));
           ended = λ over. absurd (omega (arith, over, ends, faults));
-          asks = All-nil MayTake;
+          asks = All-nil LinkMayTake;
         };
         lost_is = omega (arith, lost);
         again_is = omega (arith, again);
@@ -322,9 +322,9 @@ module _ {C D : Type 0} (told : D → Socket) (start : Sight C) (old new : Visit
 
   -- a visit after which all that was received is heeded
   settled : (mine : List RunTurn) (got : List ℕ) (given : List (List ℕ)) (link : Inlet) (framer : FramerParts) (ask : Input) (over : Bool)
-      (v : Visits told ask over old new) → All GoesOn mine → HoldsOnly got given framer.shown → StandsFor framer got given
+      (v : Visits told ask over old new) → All KeepsReading mine → HoldsOnly got given framer.shown → StandsFor framer got given
       → Did told (mine ++ turn_of ask v.heard ∷ []) got (stream_inputs given framer.shown) start new link
-      → MatchBool over (Stops told start new link framer) (Rests told start new link framer)
+      → MatchBool over (Stops told start new link framer) (HeededAll told start new link framer)
   settled mine got given link framer ask true v goes all stands did = record {
     mine = mine ++ turn_of ask v.heard ∷ [];
     got = got;
@@ -348,7 +348,7 @@ module _ {C D : Type 0} (told : D → Socket) (start : Sight C) (old new : Visit
 
   pub heeds-fault : (link : Inlet) (framer framer' : FramerParts) (fault : FrameFault) (over : Bool) → framer' ≡ without (nexts.Fault fault) framer
       → is_some framer.shown ≡ false → Gives told (nexts.Fault fault) start old link framer → Visits told (Broken fault) over old new
-      → MatchBool over (Stops told start new link framer') (Rests told start new link framer')
+      → MatchBool over (Stops told start new link framer') (HeededAll told start new link framer')
   heeds-fault link framer framer' fault over same fresh g v =
       let shown = not-shown framer.shown fresh in
       let shown' : framer'.shown ≡ Some fault = ap (λ (f : FramerParts). f.shown) same in
@@ -361,8 +361,8 @@ module _ {C D : Type 0} (told : D → Socket) (start : Sight C) (old new : Visit
       (did-visit link g.mine g.got (stream_inputs g.given framer.shown) (Broken fault) over v (beside-same (Broken fault) 0 link refl refl tt) g.did))
 
   rests-visit : (link link' : Inlet) (framer : FramerParts) (ask : Input) (looks : ℕ) (over : Bool) → framed_in ask ≡ [] → Beside ask looks 0 link link'
-      → Rests told start old link framer → Visits told ask over old new
-      → MatchBool over (Stops told start new link' framer) (Rests told start new link' framer)
+      → HeededAll told start old link framer → Visits told ask over old new
+      → MatchBool over (Stops told start new link' framer) (HeededAll told start new link' framer)
   rests-visit link link' framer ask looks over plain beside r v =
       settled r.mine r.got r.given link' framer ask over v r.goes r.all r.stands
       (did-inputs told start new link' (r.mine ++ turn_of ask v.heard ∷ []) r.got
@@ -372,8 +372,8 @@ module _ {C D : Type 0} (told : D → Socket) (start : Sight C) (old new : Visit
 
   -- a look found nothing
   pub rests-tick : (link link' : Inlet) (framer : FramerParts) (over : Bool) → HeardNone link link'
-      → Rests told start old link framer → Visits told Tick over old new
-      → MatchBool over (Stops told start new link' framer) (Rests told start new link' framer)
+      → HeededAll told start old link framer → Visits told Tick over old new
+      → MatchBool over (Stops told start new link' framer) (HeededAll told start new link' framer)
   rests-tick link link' framer over heard r v =
       let same : link'.ends + link'.faults ≡ link.ends + link.faults = omega (arith, heard.ends, heard.faults) in
       rests-visit link link' framer Tick 1 over refl (record {
@@ -388,9 +388,9 @@ module _ {C D : Type 0} (told : D → Socket) (start : Sight C) (old new : Visit
       }) r v
 
   -- the link is over
-  rests-down : (link link' : Inlet) (framer : FramerParts) (over : Bool) → Adds link.received link'.received [] → link'.idle ≡ link.idle → IsOver link'
-      → Rests told start old link framer → Visits told Down over old new
-      → MatchBool over (Stops told start new link' framer) (Rests told start new link' framer)
+  rests-down : (link link' : Inlet) (framer : FramerParts) (over : Bool) → Adds link.received link'.received [] → link'.idle ≡ link.idle → HasEnded link'
+      → HeededAll told start old link framer → Visits told Down over old new
+      → MatchBool over (Stops told start new link' framer) (HeededAll told start new link' framer)
   rests-down link link' framer over received idle is r v =
       rests-visit link link' framer Down 0 over refl (record {
         received = received;
@@ -404,19 +404,19 @@ module _ {C D : Type 0} (told : D → Socket) (start : Sight C) (old new : Visit
       }) r v
 
   pub rests-ended : (link link' : Inlet) (framer : FramerParts) (over : Bool) → HeardTheEnd link link'
-      → Rests told start old link framer → Visits told Down over old new
-      → MatchBool over (Stops told start new link' framer) (Rests told start new link' framer)
+      → HeededAll told start old link framer → Visits told Down over old new
+      → MatchBool over (Stops told start new link' framer) (HeededAll told start new link' framer)
   rests-ended link link' framer over heard r v = rests-down link link' framer over (Adds-same heard.received) heard.idle (omega (arith, heard.ends)) r v
 
   pub rests-failed : (link link' : Inlet) (framer : FramerParts) (over : Bool) → FailedToHear link link'
-      → Rests told start old link framer → Visits told Down over old new
-      → MatchBool over (Stops told start new link' framer) (Rests told start new link' framer)
+      → HeededAll told start old link framer → Visits told Down over old new
+      → MatchBool over (Stops told start new link' framer) (HeededAll told start new link' framer)
   rests-failed link link' framer over heard r v = rests-down link link' framer over (Adds-same heard.received) heard.idle (omega (arith, heard.faults)) r v
 
   -- no octet is an end
   pub rests-empty : (count : ℕ) (buf : List ℕ) (link link' : Inlet) (framer : FramerParts) (over : Bool) → count ≡ 0 → Brought count link link' buf
-      → Rests told start old link framer → Visits told Down over old new
-      → MatchBool over (Stops told start new link' framer) (Rests told start new link' framer)
+      → HeededAll told start old link framer → Visits told Down over old new
+      → MatchBool over (Stops told start new link' framer) (HeededAll told start new link' framer)
   rests-empty count buf link link' framer over is_zero brought r v =
       let risen = brought.ends.rises is_zero in
       rests-down link link' framer over (subst (λ (n : ℕ). Adds link.received link'.received (take n buf)) is_zero brought.received)

@@ -20,7 +20,7 @@ use Rattle.agent_server.specs.declared.heard.Heard.{Heard}
 use Rattle.agent_server.specs.declared.link_reader.Visitor.{Visitor}
 use Rattle.agent_server.specs.Entries.{Less, RunTurn, blanks, downs, entry_replies, is_blank, is_down, is_entry_of, is_tick, reply_by, ticks, turn_of}
 use Rattle.agent_server.specs.Entries.Less.{empty, loses}
-use Rattle.agent_server.specs.LinkReading.{AddsSome, Did, EndsAt, GoesOn, IsOver, MayAsk, MayTake, Reads, Sight, Visits, entry_framed, framed, framed_in, is_framed, is_last_of, missed}
+use Rattle.agent_server.specs.LinkReading.{AddsSome, Did, EndsAt, HasEnded, KeepsReading, LinkMayAsk, LinkMayTake, Reads, Sight, Visits, entry_framed, framed, framed_in, is_framed, is_last_of, missed}
 use Rattle.agent_server.proofs.EntryLemmas.{less-append, less-same}
 use Rattle.agent_server.proofs.GoingLemmas.{went-on}
 
@@ -73,7 +73,7 @@ record Adding (ask : Input) (heard : Option Heard) : Type 0 where
   took : number (is_tick ask) ≤ ticks (turn_of ask heard ∷ []) + blanks (turn_of ask heard ∷ [])
   down : 0 < downs (turn_of ask heard ∷ []) → is_down ask ≡ true
   shows : is_down ask ≡ true → (0 < downs (turn_of ask heard ∷ [])) ⊎ (0 < blanks (turn_of ask heard ∷ []))
-  may : MayAsk ask → MayTake (turn_of ask heard)
+  may : LinkMayAsk ask → LinkMayTake (turn_of ask heard)
 
 lost-turn : (ask : Input) → Less (framed_in ask) [] (number (is_framed ask))
 lost-turn (Message octets) = loses (Message octets) [] [] 0 empty
@@ -115,13 +115,13 @@ pub record Beside (ask : Input) (looks retries : ℕ) (link link' : Inlet) : Typ
   pub idle : AddsSome link.idle link'.idle looks
   pub ticks : number (is_tick ask) ≤ looks + retries
   pub retried : retries ≤ number (is_tick ask)
-  pub down : is_down ask ≡ true → IsOver link'
-  pub stays : IsOver link → IsOver link'
-  pub rises : IsOver link' → IsOver link ⊎ (is_down ask ≡ true)
-  pub may : MayAsk ask
+  pub down : is_down ask ≡ true → HasEnded link'
+  pub stays : HasEnded link → HasEnded link'
+  pub rises : HasEnded link' → HasEnded link ⊎ (is_down ask ≡ true)
+  pub may : LinkMayAsk ask
 
 -- the link didn't change
-pub beside-same : (ask : Input) (retries : ℕ) (link : Inlet) → number (is_tick ask) ≡ retries → is_down ask ≡ false → MayAsk ask
+pub beside-same : (ask : Input) (retries : ℕ) (link : Inlet) → number (is_tick ask) ≡ retries → is_down ask ≡ false → LinkMayAsk ask
     → Beside ask 0 retries link link
 beside-same ask retries link counts up may = record {
   received = Adds-none link.received;
@@ -165,14 +165,14 @@ reads-turn mine got heeded start link link' out again looks retries ask heard re
       few_ticks = omega (arith, reads.few_ticks, add.tick, beside.ticks, tick_count);
       down = λ some. is-over (some-of (downs mine) (downs (turn ∷ [])) (omega (arith, some, down_count)));
       ended = λ over. ended-by (beside.rises over);
-      asks = All-push MayTake mine turn reads.asks (add.may beside.may);
+      asks = All-push LinkMayTake mine turn reads.asks (add.may beside.may);
     }
   where
-    is-over : (0 < downs mine) ⊎ (0 < downs (turn_of ask heard ∷ [])) → IsOver link'
+    is-over : (0 < downs mine) ⊎ (0 < downs (turn_of ask heard ∷ [])) → HasEnded link'
     is-over (inl some) = beside.stays (reads.down some)
     is-over (inr some) = beside.down ((adding ask heard).down some)
 
-    ended-by : IsOver link ⊎ (is_down ask ≡ true)
+    ended-by : HasEnded link ⊎ (is_down ask ≡ true)
         → (0 < downs (mine ++ turn_of ask heard ∷ [])) ⊎ (0 < blanks (mine ++ turn_of ask heard ∷ []))
     ended-by (inl was) =
         either-weaker (downs mine) (blanks mine) _ _ (reads.ended was)
@@ -211,15 +211,15 @@ module _ {C D : Type 0} (told : D → Socket) where
 
 -- ---- the last turn
 
-goes-on : (ask : Input) (heard : Option Heard) → false ≡ is_last_of heard → GoesOn (turn_of ask heard)
+goes-on : (ask : Input) (heard : Option Heard) → false ≡ is_last_of heard → KeepsReading (turn_of ask heard)
 goes-on ask None last = tt
 goes-on ask (Some heard) last = sym last
 
-pub goes-push : (mine : List RunTurn) (ask : Input) (heard : Option Heard) → All GoesOn mine → false ≡ is_last_of heard
-    → All GoesOn (mine ++ turn_of ask heard ∷ [])
-goes-push mine ask heard goes last = All-push GoesOn mine (turn_of ask heard) goes (goes-on ask heard last)
+pub goes-push : (mine : List RunTurn) (ask : Input) (heard : Option Heard) → All KeepsReading mine → false ≡ is_last_of heard
+    → All KeepsReading (mine ++ turn_of ask heard ∷ [])
+goes-push mine ask heard goes last = All-push KeepsReading mine (turn_of ask heard) goes (goes-on ask heard last)
 
-pub ends-by : (P : Input → Type 0) (mine : List RunTurn) (ask : Input) (heard : Option Heard) → All GoesOn mine → true ≡ is_last_of heard → P ask
+pub ends-by : (P : Input → Type 0) (mine : List RunTurn) (ask : Input) (heard : Option Heard) → All KeepsReading mine → true ≡ is_last_of heard → P ask
     → EndsAt P (mine ++ turn_of ask heard ∷ [])
 ends-by P mine ask None goes last has = absurd (let e : true ≡ false = last in cc)
 ends-by P mine ask (Some heard) goes last has =

@@ -1,5 +1,5 @@
 -- How the writer goes on to the next link, or ends.
-use Rattle.std.proofs.Common.{◌≡◌, ◌≢◌, ℕ, ◌+◌, ◌-◌, ◌^◌, ◌<◌, ◌≤◌, ◌⊎◌, min, Bool, true, false, cond, if◌then◌else◌, suc, List, [], ◌∷◌, ◌++◌, length, All, Option, Some, None, Result, Ok, Err, refl, sym, ap, ◌∙◌, subst, append_assoc, length-append, vec_capacity, inl, inr, arith}
+use Rattle.std.proofs.Common.{◌≡◌, ◌≢◌, ℕ, ◌+◌, ◌<◌, ◌≤◌, ◌⊎◌, Bool, true, false, cond, if◌then◌else◌, suc, List, [], ◌∷◌, ◌++◌, length, All, Option, Some, None, refl, sym, ap, ◌∙◌, subst, append_assoc, vec_capacity, inl, inr, arith}
 use Rattle.std.proofs.lemmas.List.{append-nil, append_cancel_left, append_cancel_right}
 use Rattle.std.proofs.lemmas.List.Elements.{All-append, All-cons, All-head, All-nil, All-tail}
 use Rattle.std.proofs.lemmas.List.Sums.{sum_by-append}
@@ -13,11 +13,9 @@ use Rattle.wire_devices.specs.Sockets.{Socket}
 use Rattle.wire_devices.specs.Telling.{TellsOnly}
 use Rattle.agent_core.specs.declared.events.Input.{Input}
 use Rattle.agent_core.specs.declared.events.Input.TheVariants as inputs
-use Rattle.turnstile.specs.declared.pass.PassOf.{PassOf}
 use Rattle.turnstile.specs.declared.view.Known.{Known}
 use Rattle.turnstile.specs.Knowing.{Joined, left_of, right_of}
-use Rattle.turnstile.specs.Passes.{known, table_of}
-use Rattle.turnstile.specs.Turns.{In, StartsWith, greatest, least, longer, of, without}
+use Rattle.turnstile.specs.Turns.{In, greatest, least, longer, of, without}
 use Rattle.agent_server.specs.declared.desk.AgentDesk.{AgentDesk}
 use Rattle.agent_server.specs.declared.heard.Heard.{Heard}
 use Rattle.agent_server.specs.declared.link_making.Dialling.TheVariants as dialling
@@ -32,14 +30,14 @@ use Rattle.agent_server.specs.declared.running.Twins.{Twins}
 use Rattle.agent_server.specs.declared.trail.Pair.{Pair}
 use Rattle.agent_server.specs.Entries.{EachEntry, EndsWith, RunTurn, downs, handed_at, is_down, is_entry_of, is_final, is_tick, octets_in, replies_by, sends, ticks, turn_of}
 use Rattle.agent_server.specs.Going.{SeenLast, Went}
-use Rattle.agent_server.specs.LinkReading as reading
+use Rattle.agent_server.specs.LinkReading.{LinkMayTake}
 use Rattle.agent_server.specs.LinkWriting.{Wrote}
-use Rattle.agent_server.specs.Running.{Between, ClosedFor, Dialled, Ends, EndsLink, EndsRun, end_after, Goes, GoesOn, HasSpare, IsFinishedTick, LastDrain, LateDrainsAreEmpty, LeftAlone, LeftAtEnd, LinkOpened, LinkOver, NoLeave, Opened, Over, Rests, RoseBy, RunOver, Tally, TakesLeaveAlone, Ticked}
+use Rattle.agent_server.specs.Running.{Between, ClosedFor, ComesNext, Dialled, Ends, EndsLink, EndsRun, end_after, HasSpare, IsFinishedTick, LastDrain, LateDrainsAreEmpty, LeftAtEnd, LinkOpened, NoLeave, Over, Rests, RoseBy, RunOver, Tally, TakesLeaveAlone, Ticked}
 use Rattle.agent_server.specs.Runs.{is_leave}
 use Rattle.agent_server.specs.Serving.{AllBut, AreUnopened, IsTick, LinkRead, MayWrite, Span, Spanned, Spans}
 use Rattle.agent_server.specs.Serving.Spans.{no_more, one_more}
 use Rattle.agent_server.specs.Spans.{IsClosed, ServerTurn, flat, is_beginning}
-use Rattle.agent_server.proofs.DialLemmas.{each-append, rose-none, rose-on}
+use Rattle.agent_server.proofs.DialLemmas.{each-append}
 use Rattle.agent_server.proofs.GoingLemmas.{went-on}
 use Rattle.agent_server.proofs.GrowthLemmas.{MayFollow, all-grow, all_but-grow, closed-grow, closed_for-grow, ends-grow, grow, length-grow, others-follow, spanned-grow, wrote-still}
 use Rattle.agent_server.proofs.LinkOverLemmas.{all_but-all, each-weaker, length-push, spans-push}
@@ -235,24 +233,28 @@ ticked-on a b c x y z one two =
       more = one.more ++ two.more;
       whole = two.whole ∙ ap (λ ts. ts ++ two.more) one.whole ∙ append_assoc a one.more two.more;
       counted = omega (arith, both, one.counted, two.counted);
+      grows = omega (arith, one.grows, two.grows);
     }
 
+pub ticked-still : (own : List RunTurn) (n : ℕ) → Ticked own own n n
+ticked-still own n = record { more = []; whole = sym (append-nil own); counted = omega arith; grows = omega arith }
+
 pub ticked-none : (a b : List RunTurn) (n : ℕ) → Ticked a b 0 0 → Ticked a b n n
-ticked-none a b n t = record { more = t.more; whole = t.whole; counted = omega (arith, t.counted) }
+ticked-none a b n t = record { more = t.more; whole = t.whole; counted = omega (arith, t.counted); grows = omega arith }
 
 -- the Up of a link
 pub ticked-up : {C : Type 0} (k l : Known (AgentDesk C) Input Heard) (opened : Heard) (faults : ℕ) → k.numbers ≡ 0 ∷ 3 ∷ [] → Went (Some (inputs.Up, opened) ∷ []) k l
     → Ticked (of 0 k.seen) (of 0 l.seen) faults faults
 ticked-up k l opened faults numbers went =
     let t = writer-turns k l (Some (inputs.Up, opened) ∷ []) numbers went in
-    record { more = Some (inputs.Up, opened) ∷ []; whole = t.own_now; counted = omega arith }
+    record { more = Some (inputs.Up, opened) ∷ []; whole = t.own_now; counted = omega arith; grows = omega arith }
 
 -- a dialling
 pub ticked-dials : {C : Type 0} (k l : Known (AgentDesk C) Input Heard) (mine : List RunTurn) (before now : ℕ) → k.numbers ≡ 0 ∷ 3 ∷ [] → Went mine k l
-    → RoseBy (length mine) before now → Ticked (of 0 k.seen) (of 0 l.seen) before now
-ticked-dials k l mine before now numbers went rose =
+    → RoseBy (length mine) before now → before ≤ now → Ticked (of 0 k.seen) (of 0 l.seen) before now
+ticked-dials k l mine before now numbers went rose grows =
     let t = writer-turns k l mine numbers went in
-    record { more = mine; whole = t.own_now; counted = let few = few-ticks mine in omega (arith, rose, few) }
+    record { more = mine; whole = t.own_now; counted = let few = few-ticks mine in omega (arith, rose, few); grows = grows }
 
 -- ---- closed links
 
@@ -272,37 +274,37 @@ late-on mine more late none = record {
   later = each-append Begins-none late.back more late.later none;
 }
 
+-- the last of some closed links
+pub last-closed : (segs : List (List ServerTurn)) → 0 < length segs → All IsClosed segs
+    → (cause : LinkCause) × (is_final cause ≡ false) × EndsWith (ClosedFor cause) segs
+last-closed [] some all = absurd (omega (arith, some))
+last-closed (seg ∷ []) some all =
+    let c = All-head IsClosed seg [] all in
+    (c.cause, c.goes_on, ([], seg, refl, record { heard = c.heard; front = c.front; back = c.back; whole = c.whole; closed = c.closed }))
+last-closed (seg ∷ more ∷ segs) some all =
+    let (cause, goes_on, (front, last, is, has)) = last-closed (more ∷ segs) (omega arith) (All-tail IsClosed seg (more ∷ segs) all) in
+    (cause, goes_on, (seg ∷ front, last, ap (λ ss. seg ∷ ss) is, has))
+
+-- all are closed where all but the last are, and the last is, for a cause after which another link is made
+pub all-closed : (segs : List (List ServerTurn)) (cause : LinkCause) → is_final cause ≡ false → AllBut IsClosed segs → EndsWith (ClosedFor cause) segs
+    → All IsClosed segs
+all-closed [] cause goes_on all (front, last, is, has) = All-nil IsClosed
+all-closed (seg ∷ []) cause goes_on all ([], last, is, c) =
+    let same : seg ≡ last = cc in
+    All-cons IsClosed seg [] (record { cause = cause; heard = c.heard; front = c.front; back = c.back; whole = same ∙ c.whole; closed = c.closed; goes_on = goes_on }) (All-nil IsClosed)
+all-closed (seg ∷ []) cause goes_on all (x ∷ front, last, is, c) = absurd (none-after front last (let e : [] ≡ front ++ last ∷ [] = cc in e))
+  where
+    none-after : (front : List (List ServerTurn)) (last : List ServerTurn) → [] ≡ front ++ last ∷ [] → ⊥
+    none-after [] last is = cc
+    none-after (x ∷ front) last is = cc
+all-closed (seg ∷ more ∷ segs) cause goes_on (has, all) ([], last, is, c) = absurd (let e : more ∷ segs ≡ [] = cc in cc)
+all-closed (seg ∷ more ∷ segs) cause goes_on (has, all) (x ∷ front, last, is, c) =
+    All-cons IsClosed seg (more ∷ segs) has (all-closed (more ∷ segs) cause goes_on all (front, last, (let e : more ∷ segs ≡ front ++ last ∷ [] = cc in e), c))
+
 module _ {I O : Type 0} (hears : I → Inlet) (speaks : O → Outlet) where
   pub spans-length : (pairs : List (Pair I O)) (segs : List (List ServerTurn)) (n r : ℕ) → Spans hears speaks pairs segs n r → length pairs ≡ length segs
   spans-length pairs segs n r no_more = refl
   spans-length pairs segs n r (one_more pair seg n' r' pairs' segs' m q one spans) = ap suc (spans-length pairs' segs' m q spans)
-
-  -- the last of some closed links
-  pub last-closed : (segs : List (List ServerTurn)) → 0 < length segs → All IsClosed segs
-      → (cause : LinkCause) × (is_final cause ≡ false) × EndsWith (ClosedFor hears speaks cause) segs
-  last-closed [] some all = absurd (omega (arith, some))
-  last-closed (seg ∷ []) some all =
-      let c = All-head IsClosed seg [] all in
-      (c.cause, c.goes_on, ([], seg, refl, record { heard = c.heard; front = c.front; back = c.back; whole = c.whole; closed = c.closed }))
-  last-closed (seg ∷ more ∷ segs) some all =
-      let (cause, goes_on, (front, last, is, has)) = last-closed (more ∷ segs) (omega arith) (All-tail IsClosed seg (more ∷ segs) all) in
-      (cause, goes_on, (seg ∷ front, last, ap (λ ss. seg ∷ ss) is, has))
-
-  -- all are closed where all but the last are, and the last is, for a cause after which another link is made
-  pub all-closed : (segs : List (List ServerTurn)) (cause : LinkCause) → is_final cause ≡ false → AllBut IsClosed segs → EndsWith (ClosedFor hears speaks cause) segs
-      → All IsClosed segs
-  all-closed [] cause goes_on all (front, last, is, has) = All-nil IsClosed
-  all-closed (seg ∷ []) cause goes_on all ([], last, is, c) =
-      let same : seg ≡ last = cc in
-      All-cons IsClosed seg [] (record { cause = cause; heard = c.heard; front = c.front; back = c.back; whole = same ∙ c.whole; closed = c.closed; goes_on = goes_on }) (All-nil IsClosed)
-  all-closed (seg ∷ []) cause goes_on all (x ∷ front, last, is, c) = absurd (none-after front last (let e : [] ≡ front ++ last ∷ [] = cc in e))
-    where
-      none-after : (front : List (List ServerTurn)) (last : List ServerTurn) → [] ≡ front ++ last ∷ [] → ⊥
-      none-after [] last is = cc
-      none-after (x ∷ front) last is = cc
-  all-closed (seg ∷ more ∷ segs) cause goes_on (has, all) ([], last, is, c) = absurd (let e : more ∷ segs ≡ [] = cc in cc)
-  all-closed (seg ∷ more ∷ segs) cause goes_on (has, all) (x ∷ front, last, is, c) =
-      All-cons IsClosed seg (more ∷ segs) has (all-closed (more ∷ segs) cause goes_on all (front, last, (let e : more ∷ segs ≡ front ++ last ∷ [] = cc in e), c))
 
   -- each link has a span
   pub between-some : (pairs : List (Pair I O)) (seen : List ServerTurn) (n r : ℕ) → 0 < length pairs → (b : Between hears speaks pairs seen n r) → 0 < length b.segs
@@ -327,8 +329,8 @@ module _ {I O : Type 0} (hears : I → Inlet) (speaks : O → Outlet) where
 
     -- the end of a run whose links were all closed, by some more turns of the writer
     pub over-from : (end : RunEnd) (row : ℕ) (refused : Type 0) (pairs served spare : List (Pair I O)) (k k' : Known (AgentDesk C) Input Heard) (mine : List RunTurn) (n r : ℕ)
-        (t : WriterTurns k k' mine) → IsStill mine → pairs ≡ served ++ spare → AreUnopened hears speaks spare → HasSpare hears speaks end spare → length pairs ≤ 256 → 0 < length served
-        → (b : Between hears speaks served k.seen n r) → EndsRun hears speaks end row refused (grow b.segs t.rest) k'.seen
+        (t : WriterTurns k k' mine) → IsStill mine → pairs ≡ served ++ spare → AreUnopened hears speaks spare → HasSpare end spare → length pairs ≤ 256 → 0 < length served
+        → (b : Between hears speaks served k.seen n r) → EndsRun end row refused (grow b.segs t.rest) k'.seen
         → RunOver hears speaks end row refused pairs k'.seen n r
     over-from end row refused pairs served spare k k' mine n r t still paired unopened only few some b ends =
         let some_seg = between-some served k.seen n r some b in
@@ -347,21 +349,21 @@ module _ {I O : Type 0} (hears : I → Inlet) (speaks : O → Outlet) where
         }
 
   -- what the readers of links asked
-  pub spans-reads : (pairs : List (Pair I O)) (segs : List (List ServerTurn)) (n r : ℕ) → Spans hears speaks pairs segs n r → All reading.MayTake (of 3 (flat segs))
-  spans-reads pairs segs n r no_more = All-nil reading.MayTake
+  pub spans-reads : (pairs : List (Pair I O)) (segs : List (List ServerTurn)) (n r : ℕ) → Spans hears speaks pairs segs n r → All LinkMayTake (of 3 (flat segs))
+  spans-reads pairs segs n r no_more = All-nil LinkMayTake
   spans-reads pairs segs n r (one_more pair seg n' r' pairs' segs' m q one spans) =
       let here : of 3 seg ≡ of 3 one.rest = ap (of 3) one.whole in
-      subst (All reading.MayTake) (sym (of-append 3 seg (flat segs')))
-      (All-append reading.MayTake (of 3 seg) (of 3 (flat segs')) (subst (All reading.MayTake) (sym here) (read (of 3 one.rest) one.read)) (spans-reads pairs' segs' m q spans))
+      subst (All LinkMayTake) (sym (of-append 3 seg (flat segs')))
+      (All-append LinkMayTake (of 3 seg) (of 3 (flat segs')) (subst (All LinkMayTake) (sym here) (read (of 3 one.rest) one.read)) (spans-reads pairs' segs' m q spans))
     where
-      read : (mine : List RunTurn) → LinkRead hears speaks mine (hears pair.link_in) n' r' → All reading.MayTake mine
+      read : (mine : List RunTurn) → LinkRead hears speaks mine (hears pair.link_in) n' r' → All LinkMayTake mine
       read mine (inl (made, fresh, served)) = served.reads.asks
-      read mine (inr (fresh, none, left, retried)) = subst (All reading.MayTake) (sym none) (All-nil reading.MayTake)
+      read mine (inr (fresh, none, left, retried)) = subst (All LinkMayTake) (sym none) (All-nil LinkMayTake)
 
   pub spanned-reads : (pairs : List (Pair I O)) (segs : List (List ServerTurn)) (seen : List ServerTurn) (n r : ℕ) → Spanned hears speaks pairs segs seen n r
-      → All reading.MayTake (of 3 seen)
+      → All LinkMayTake (of 3 seen)
   spanned-reads pairs segs seen n r s =
-      subst (All reading.MayTake) (sym (ap (of 3) s.whole ∙ of-append 3 s.front (flat segs) ∙ ap (λ ts. ts ++ of 3 (flat segs)) s.alone))
+      subst (All LinkMayTake) (sym (ap (of 3) s.whole ∙ of-append 3 s.front (flat segs) ∙ ap (λ ts. ts ++ of 3 (flat segs)) s.alone))
       (spans-reads pairs segs n r s.spans)
 
   module _ {C D : Type 0} (told : D → Socket) where
@@ -420,20 +422,22 @@ module _ {I O : Type 0} (hears : I → Inlet) (speaks : O → Outlet) where
     -- the run ends with no link open, by some more turns of the writer
     pub ends-by : (end : RunEnd) (before now : Dials) (refused : Type 0) (k k' : Known (AgentDesk C) Input Heard) (twins : Twins D) (past past' : Past I O)
         (spare : List (Pair I O)) (mine : List RunTurn) → (s : Rests hears speaks told k twins past) → (went : Went mine k k')
-        → (LateDrainsAreEmpty (of 0 k'.seen) → IsStill mine) → RoseBy (ticks mine) before.faults now.faults
+        → (LateDrainsAreEmpty (of 0 k'.seen) → IsStill mine) → RoseBy (ticks mine) before.faults now.faults → before.faults ≤ now.faults
+        → (now.row ≡ 16 → Rose before.faults now.faults)
         → past'.pairs.items ≡ past.pairs.items ++ spare → vec_capacity past'.pairs ≡ vec_capacity past.pairs → past'.lost ≡ past.lost → past'.again ≡ past.again
-        → AreUnopened hears speaks spare → HasSpare hears speaks end spare → length past'.pairs.items ≤ 256
-        → ((t : WriterTurns k k' mine) → EndsRun hears speaks end now.row refused (grow s.between.segs t.rest) k'.seen)
+        → AreUnopened hears speaks spare → HasSpare end spare → length past'.pairs.items ≤ 256
+        → ((t : WriterTurns k k' mine) → EndsRun end now.row refused (grow s.between.segs t.rest) k'.seen)
         → Ends hears speaks told end before now refused k k' twins past'
-    ends-by end before now refused k k' twins past past' spare mine s went still dialled pairs room lost again unopened only few ends =
+    ends-by end before now refused k k' twins past past' spare mine s went still dialled grows failed pairs room lost again unopened only few ends =
         let t = writer-turns k k' mine s.numbers went in
         record {
           first = t.first;
           numbers = t.numbers;
-          ticked = record { more = mine; whole = t.own_now; counted = dialled };
+          ticked = record { more = mine; whole = t.own_now; counted = dialled; grows = grows };
+          failed = failed;
           out = s.out;
           retries = s.retries;
-          reads = subst (All reading.MayTake) (sym t.alone_now) (spanned-reads past.pairs.items s.between.segs k.seen s.out s.retries s.between.spanned);
+          reads = subst (All LinkMayTake) (sym t.alone_now) (spanned-reads past.pairs.items s.between.segs k.seen s.out s.retries s.between.spanned);
           over = λ late. over-from end now.row refused past'.pairs.items past.pairs.items spare k k' mine s.out s.retries t (still late) pairs unopened only few s.some s.between (ends t);
           tally = record {
             lost = lost ∙ s.tally.lost;
@@ -446,15 +450,15 @@ module _ {I O : Type 0} (hears : I → Inlet) (speaks : O → Outlet) where
 
     -- the Up of a link that was made met want of memory
     pub ends-unopened : (dials : Dials) (refused : Type 0) (k l m : Known (AgentDesk C) Input Heard) (twins : Twins D) (past past' : Past I O) (pair : Pair I O) (left : Option Heard)
-        → Rests hears speaks told k twins past → Went (None ∷ []) k l → Went (turn_of inputs.Leave left ∷ []) l m → length past.pairs.items < 256
+        → dials.row ≡ 0 → Rests hears speaks told k twins past → Went (None ∷ []) k l → Went (turn_of inputs.Leave left ∷ []) l m → length past.pairs.items < 256
         → past'.pairs.items ≡ past.pairs.items ++ pair ∷ [] → vec_capacity past'.pairs ≡ vec_capacity past.pairs → past'.lost ≡ past.lost → past'.again ≡ past.again
         → IsFreshInlet (hears pair.link_in) → IsFreshOutlet (speaks pair.link_out)
         → Ends hears speaks told run.NoMemory dials dials refused k m twins past'
-    ends-unopened dials refused k l m twins past past' pair left s blank went few pairs room lost again fresh_in fresh_out =
+    ends-unopened dials refused k l m twins past past' pair left low s blank went few pairs room lost again fresh_in fresh_out =
         ends-by run.NoMemory dials dials refused k m twins past past' (pair ∷ []) (None ∷ turn_of inputs.Leave left ∷ []) s
         (went-on (None ∷ []) (turn_of inputs.Leave left ∷ []) k l m blank went)
         (λ late. still-on (None ∷ []) (turn_of inputs.Leave left ∷ []) still-blank (still-leave left))
-        (leave-ticks left dials.faults) pairs room lost again (fresh_in, fresh_out) tt
+        (leave-ticks left dials.faults) (omega arith) (λ full. absurd (omega (arith, low, full))) pairs room lost again (fresh_in, fresh_out) tt
         (omega (arith, ap length pairs, length-push past.pairs.items pair, few)) (λ t. tt)
       where
         leave-ticks : (left : Option Heard) (faults : ℕ) → RoseBy (ticks (None ∷ turn_of inputs.Leave left ∷ [])) faults faults
@@ -463,16 +467,16 @@ module _ {I O : Type 0} (hears : I → Inlet) (speaks : O → Outlet) where
 
     -- all links that may be made were closed
     pub ends-worn : (dials : Dials) (refused : Type 0) (k l : Known (AgentDesk C) Input Heard) (twins : Twins D) (past : Past I O) (left : Option Heard)
-        → (s : Rests hears speaks told k twins past) → Went (turn_of inputs.Leave left ∷ []) k l → 256 ≤ length past.pairs.items
+        → dials.row ≡ 0 → (s : Rests hears speaks told k twins past) → Went (turn_of inputs.Leave left ∷ []) k l → 256 ≤ length past.pairs.items
         → Ends hears speaks told run.Worn dials dials refused k l twins past
-    ends-worn dials refused k l twins past left s went many =
+    ends-worn dials refused k l twins past left low s went many =
         ends-by run.Worn dials dials refused k l twins past past [] (turn_of inputs.Leave left ∷ []) s went (λ late. still-leave left) (leave-ticks left dials.faults)
-        (sym (append-nil past.pairs.items)) refl refl refl tt refl s.few
+        (omega arith) (λ full. absurd (omega (arith, low, full))) (sym (append-nil past.pairs.items)) refl refl refl tt refl s.few
         (λ t.
         let b = s.between in
         let (cause, goes_on, ends) = last-closed b.segs (between-some past.pairs.items k.seen s.out s.retries s.some b) b.closed in (
           omega (arith, length-grow b.segs t.rest, spans-length past.pairs.items b.segs s.out s.retries b.spanned.spans, many, s.few),
-          (cause, goes_on, ends-grow (ClosedFor hears speaks cause) b.segs t.rest (λ seg c. closed_for-grow hears speaks cause seg t.rest c) ends),
+          (cause, goes_on, ends-grow (ClosedFor cause) b.segs t.rest (λ seg c. closed_for-grow cause seg t.rest c) ends),
         ))
       where
         leave-ticks : (left : Option Heard) (faults : ℕ) → RoseBy (ticks (turn_of inputs.Leave left ∷ [])) faults faults
@@ -481,16 +485,17 @@ module _ {I O : Type 0} (hears : I → Inlet) (speaks : O → Outlet) where
 
     -- too many dials in a row failed
     pub ends-undialled : (before now : Dials) (refused : Type 0) (k l m : Known (AgentDesk C) Input Heard) (twins : Twins D) (past : Past I O) (mine : List RunTurn) (left : Option Heard)
-        → Rests hears speaks told k twins past → Went mine k l → Dialled hears speaks dialling.Failed mine before now → Went (turn_of inputs.Leave left ∷ []) l m
+        → before.row ≡ 0 → Rests hears speaks told k twins past → Went mine k l → Dialled hears speaks dialling.Failed mine before now
+        → Went (turn_of inputs.Leave left ∷ []) l m
         → Ends hears speaks told run.LinkFault before now refused k m twins past
-    ends-undialled before now refused k l m twins past mine left s dials d went =
+    ends-undialled before now refused k l m twins past mine left low s dials d went =
         ends-by run.LinkFault before now refused k m twins past past [] (mine ++ turn_of inputs.Leave left ∷ []) s (went-on mine (turn_of inputs.Leave left ∷ []) k l m dials went)
         (λ late. still-on mine (turn_of inputs.Leave left ∷ []) (still-ticks mine d.asks) (still-leave left))
         (let both = sum_by-append (λ turn. cond (is_entry_of is_tick turn) 1 0) mine (turn_of inputs.Leave left ∷ []) in
         let few = few-ticks mine in
         let none = no-ticks (turn_of inputs.Leave left ∷ []) (leave-tick left) in
         omega (arith, d.faults, both, few, none))
-        (sym (append-nil past.pairs.items)) refl refl refl tt refl s.few (λ t. d.ends)
+        d.grows (λ full. d.failed (omega (arith, low, full))) (sym (append-nil past.pairs.items)) refl refl refl tt refl s.few (λ t. d.ends)
       where
         leave-tick : (left : Option Heard) → EachEntry (λ ask heard. is_tick ask ≡ false) (turn_of inputs.Leave left ∷ [])
         leave-tick None = tt
@@ -498,9 +503,9 @@ module _ {I O : Type 0} (hears : I → Inlet) (speaks : O → Outlet) where
 
     -- the run was at its end while no link was open
     pub ends-finished : (end : RunEnd) (before now : Dials) (refused : Type 0) (k l m : Known (AgentDesk C) Input Heard) (twins : Twins D) (past : Past I O) (mine : List RunTurn)
-        → Rests hears speaks told k twins past → Went mine k l → Dialled hears speaks dialling.Finished mine before now → TakesLeaveAlone end l m
+        → before.row ≡ 0 → Rests hears speaks told k twins past → Went mine k l → Dialled hears speaks dialling.Finished mine before now → TakesLeaveAlone end l m
         → Ends hears speaks told end before now refused k m twins past
-    ends-finished run.Left before now refused k l m twins past mine s dials d (more, went, (left, last, is)) =
+    ends-finished run.Left before now refused k l m twins past mine low s dials d (more, went, (left, last, is)) =
         by (subst (λ ts. Went ts l m) is went)
       where
         all : List RunTurn
@@ -551,8 +556,8 @@ module _ {I O : Type 0} (hears : I → Inlet) (speaks : O → Outlet) where
         by gone =
             let whole = went-on mine (Some (inputs.Leave, left) ∷ Some (inputs.Drain, last) ∷ []) k l m dials gone in
             ends-by run.Left before now refused k m twins past past [] all s whole (λ late. still late (writer-turns k m all s.numbers whole)) ticked
-            (sym (append-nil past.pairs.items)) refl refl refl tt refl s.few (λ t. at-end t d.ends.1)
-    ends-finished run.NoMemory before now refused k l m twins past mine s dials d (more, went, how) = by more how went
+            d.grows (λ full. d.failed (omega (arith, low, full))) (sym (append-nil past.pairs.items)) refl refl refl tt refl s.few (λ t. at-end t d.ends.1)
+    ends-finished run.NoMemory before now refused k l m twins past mine low s dials d (more, went, how) = by more how went
       where
         end-by : (more : List RunTurn) → IsStill more → EachEntry (λ ask heard. is_tick ask ≡ false) more → Went more l m → Ends hears speaks told run.NoMemory before now refused k m twins past
         end-by more still none gone =
@@ -562,27 +567,27 @@ module _ {I O : Type 0} (hears : I → Inlet) (speaks : O → Outlet) where
             let few = few-ticks mine in
             let zero = no-ticks more none in
             omega (arith, d.faults, both, few, zero))
-            (sym (append-nil past.pairs.items)) refl refl refl tt tt s.few (λ t. tt)
+            d.grows (λ full. d.failed (omega (arith, low, full))) (sym (append-nil past.pairs.items)) refl refl refl tt tt s.few (λ t. tt)
 
         by : (more : List RunTurn) → (more ≡ None ∷ []) ⊎ ((left : Heard) × (more ≡ Some (inputs.Leave, left) ∷ None ∷ [])) → Went more l m
             → Ends hears speaks told run.NoMemory before now refused k m twins past
         by more (inl is) gone = end-by (None ∷ []) still-blank tt (subst (λ ts. Went ts l m) is gone)
         by more (inr (left, is)) gone =
             end-by (Some (inputs.Leave, left) ∷ None ∷ []) (record { asks = (tt, tt); hands = refl; no_down = refl }) (refl, tt) (subst (λ ts. Went ts l m) is gone)
-    ends-finished run.Closed before now refused k l m twins past mine s dials d (more, went, how) = absurd how
-    ends-finished run.Worn before now refused k l m twins past mine s dials d (more, went, how) = absurd how
-    ends-finished run.LinkFault before now refused k l m twins past mine s dials d (more, went, how) = absurd how
-    ends-finished run.NoThread before now refused k l m twins past mine s dials d (more, went, how) = absurd how
+    ends-finished run.Closed before now refused k l m twins past mine low s dials d (more, went, how) = absurd how
+    ends-finished run.Worn before now refused k l m twins past mine low s dials d (more, went, how) = absurd how
+    ends-finished run.LinkFault before now refused k l m twins past mine low s dials d (more, went, how) = absurd how
+    ends-finished run.NoThread before now refused k l m twins past mine low s dials d (more, went, how) = absurd how
 
     -- ---- a link that was opened, whose reader couldn't be started
 
     pub ends-unstarted : (end : RunEnd) (dials : Dials) (refused : Type 0) (k l m : Known (AgentDesk C) Input Heard) (twins twins' : Twins D) (past past' : Past I O) (pair : Pair I O)
-        (left : Option Heard) → (s : LinkOpened hears speaks told k twins past) → Same k l → Went (turn_of inputs.Leave left ∷ []) l m → twins' ≡ twins
+        (left : Option Heard) → dials.row ≡ 0 → (s : LinkOpened hears speaks told k twins past) → Same k l → Went (turn_of inputs.Leave left ∷ []) l m → twins' ≡ twins
         → past'.pairs.items ≡ past.pairs.items ++ pair ∷ [] → vec_capacity past'.pairs ≡ vec_capacity past.pairs → past'.lost ≡ past.lost → past'.again ≡ past.again
         → IsFreshInlet (hears pair.link_in) → IsFreshOutlet (speaks pair.link_out)
-        → ((segs : List (List ServerTurn)) (seen : List ServerTurn) → EndsRun hears speaks end dials.row refused segs seen) → HasSpare hears speaks end []
+        → ((segs : List (List ServerTurn)) (seen : List ServerTurn) → EndsRun end dials.row refused segs seen) → HasSpare {A = Pair I O} end []
         → Ends hears speaks told end dials dials refused k m twins' past'
-    ends-unstarted end dials refused k l m twins twins' past past' pair left s same went alike pairs room lost again fresh_in fresh_out ends only =
+    ends-unstarted end dials refused k l m twins twins' past past' pair left low s same went alike pairs room lost again fresh_in fresh_out ends only =
         let t = writer-turns l m (turn_of inputs.Leave left ∷ []) same.numbers went in
         let b = s.opened.between in
         let up : ServerTurn = (0, Some (inputs.Up, s.opened.opened)) in
@@ -616,7 +621,13 @@ module _ {I O : Type 0} (hears : I → Inlet) (speaks : O → Outlet) where
         record {
           first = t.first ∙ same.first;
           numbers = t.numbers;
-          ticked = record { more = turn_of inputs.Leave left ∷ []; whole = own_now; counted = let none = no-ticks (turn_of inputs.Leave left ∷ []) (leave-tick left) in omega (arith, none) };
+          ticked = record {
+            more = turn_of inputs.Leave left ∷ [];
+            whole = own_now;
+            counted = let none = no-ticks (turn_of inputs.Leave left ∷ []) (leave-tick left) in omega (arith, none);
+            grows = omega arith;
+          };
+          failed = λ full. absurd (omega (arith, low, full));
           out = s.out + 0;
           retries = s.retries + 0;
           reads = spanned-reads past'.pairs.items (b.segs ++ seg ∷ []) m.seen (s.out + 0) (s.retries + 0) spanned;
@@ -650,7 +661,7 @@ module _ {I O : Type 0} (hears : I → Inlet) (speaks : O → Outlet) where
 
     pub goes-after : (r : Next C D I O) (turnstile : TableId) (d e f : Dials) (starts starts' : ℕ) (k l m : Known (AgentDesk C) Input Heard) (past : Past I O)
         → l.first ≡ k.first → Ticked (of 0 k.seen) (of 0 l.seen) d.faults e.faults
-        → GoesOn hears speaks told r turnstile e f starts starts' l m past → GoesOn hears speaks told r turnstile d f starts starts' k m past
+        → ComesNext hears speaks told r turnstile e f starts starts' l m past → ComesNext hears speaks told r turnstile d f starts starts' k m past
     goes-after (next.Go live) turnstile d e f starts starts' k l m past first ticked goes = record {
       first = goes.first ∙ first;
       ticked = ticked-on (of 0 k.seen) (of 0 l.seen) (of 0 m.seen) d.faults e.faults f.faults ticked goes.ticked;
@@ -662,6 +673,7 @@ module _ {I O : Type 0} (hears : I → Inlet) (speaks : O → Outlet) where
       first = ends.first ∙ first;
       numbers = ends.numbers;
       ticked = ticked-on (of 0 k.seen) (of 0 l.seen) (of 0 m.seen) d.faults e.faults f.faults ticked ends.ticked;
+      failed = λ full. let rose = ends.failed full in omega (arith, rose, ticked.grows);
       out = ends.out;
       retries = ends.retries;
       reads = ends.reads;
@@ -671,11 +683,12 @@ module _ {I O : Type 0} (hears : I → Inlet) (speaks : O → Outlet) where
 
     -- no link is made after this one
     pub over-ends : (end : WriterEnd) (last : RunEnd) (dials : Dials) (refused : Type 0) (k k' : Known (AgentDesk C) Input Heard) (twins : Twins D) (past : Past I O)
-        → end_after end ≡ Some last → Over hears speaks told end k k' twins past → Ends hears speaks told last dials dials refused k k' twins past
-    over-ends end last dials refused k k' twins past is o = record {
+        → dials.row ≡ 0 → end_after end ≡ Some last → Over hears speaks told end k k' twins past → Ends hears speaks told last dials dials refused k k' twins past
+    over-ends end last dials refused k k' twins past low is o = record {
       first = o.first;
       numbers = o.numbers;
-      ticked = record { more = o.ticked.more; whole = o.ticked.whole; counted = omega (arith, o.ticked.counted) };
+      ticked = ticked-none (of 0 k.seen) (of 0 k'.seen) dials.faults o.ticked;
+      failed = λ full. absurd (omega (arith, low, full));
       out = o.out;
       retries = o.retries;
       reads = spanned-reads past.pairs.items o.over.segs k'.seen o.out o.retries o.over.spanned;
@@ -695,7 +708,7 @@ module _ {I O : Type 0} (hears : I → Inlet) (speaks : O → Outlet) where
       tally = o.tally;
     }
       where
-        no-spare : (last : RunEnd) → HasSpare hears speaks last []
+        no-spare : (last : RunEnd) → HasSpare {A = Pair I O} last []
         no-spare run.Closed = refl
         no-spare run.Left = refl
         no-spare run.Worn = refl
@@ -703,15 +716,15 @@ module _ {I O : Type 0} (hears : I → Inlet) (speaks : O → Outlet) where
         no-spare run.NoThread = refl
         no-spare run.NoMemory = tt
 
-        at : (e : RunEnd) → e ≡ last → EndsRun hears speaks e dials.row refused o.over.segs k'.seen → EndsRun hears speaks last dials.row refused o.over.segs k'.seen
-        at e same ends = subst (λ (f : RunEnd). EndsRun hears speaks f dials.row refused o.over.segs k'.seen) same ends
+        at : (e : RunEnd) → e ≡ last → EndsRun e dials.row refused o.over.segs k'.seen → EndsRun last dials.row refused o.over.segs k'.seen
+        at e same ends = subst (λ (f : RunEnd). EndsRun f dials.row refused o.over.segs k'.seen) same ends
 
         closed : (cause : LinkCause) (b : Bool) → is_final cause ≡ b → (if b then Some run.Closed else None) ≡ Some last
-            → EndsLink hears speaks (writer.Closed cause) o.over.segs k'.seen → EndsRun hears speaks last dials.row refused o.over.segs k'.seen
+            → EndsLink (writer.Closed cause) o.over.segs k'.seen → EndsRun last dials.row refused o.over.segs k'.seen
         closed cause true final same ends = let e : run.Closed ≡ last = cc in at run.Closed e (ends.0, (cause, final, ends.1))
         closed cause false final same ends = absurd cc
 
-        by : (e : WriterEnd) → end_after e ≡ Some last → EndsLink hears speaks e o.over.segs k'.seen → EndsRun hears speaks last dials.row refused o.over.segs k'.seen
+        by : (e : WriterEnd) → end_after e ≡ Some last → EndsLink e o.over.segs k'.seen → EndsRun last dials.row refused o.over.segs k'.seen
         by (writer.Closed cause) same ends = closed cause (is_final cause) refl same ends
         by writer.Done same ends = let e : run.Left ≡ last = cc in at run.Left e ends
         by writer.NoMemory same ends = let e : run.NoMemory ≡ last = cc in at run.NoMemory e tt
@@ -721,7 +734,7 @@ module _ {I O : Type 0} (hears : I → Inlet) (speaks : O → Outlet) where
         → Over hears speaks told end k k' twins past → Rests hears speaks told k' twins past
     over-rests end k k' twins past is o = by end is o.over.ends
       where
-        rests : (cause : LinkCause) → is_final cause ≡ false → EndsLink hears speaks (writer.Closed cause) o.over.segs k'.seen → Rests hears speaks told k' twins past
+        rests : (cause : LinkCause) → is_final cause ≡ false → EndsLink (writer.Closed cause) o.over.segs k'.seen → Rests hears speaks told k' twins past
         rests cause goes_on ends = record {
           numbers = o.numbers;
           out = o.out;
@@ -739,11 +752,11 @@ module _ {I O : Type 0} (hears : I → Inlet) (speaks : O → Outlet) where
         }
 
         closed : (cause : LinkCause) (b : Bool) → is_final cause ≡ b → (if b then Some run.Closed else None) ≡ None
-            → EndsLink hears speaks (writer.Closed cause) o.over.segs k'.seen → Rests hears speaks told k' twins past
+            → EndsLink (writer.Closed cause) o.over.segs k'.seen → Rests hears speaks told k' twins past
         closed cause true final same ends = absurd (let e : Some run.Closed ≡ None = same in cc)
         closed cause false final same ends = rests cause final ends
 
-        by : (e : WriterEnd) → end_after e ≡ None → EndsLink hears speaks e o.over.segs k'.seen → Rests hears speaks told k' twins past
+        by : (e : WriterEnd) → end_after e ≡ None → EndsLink e o.over.segs k'.seen → Rests hears speaks told k' twins past
         by (writer.Closed cause) same ends = closed cause (is_final cause) refl same ends
         by writer.Done same ends = absurd cc
         by writer.NoMemory same ends = absurd cc

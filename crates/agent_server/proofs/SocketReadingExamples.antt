@@ -12,7 +12,7 @@ use Rattle.wire_devices.specs.Sockets.{datagram}
 use Rattle.agent_server.specs.declared.heard.Heard.{Heard}
 use Rattle.agent_server.specs.Entries.{EndsWith, Less, RunTurn, replies, ticks}
 use Rattle.agent_server.specs.Entries.Less.{empty, keeps, loses}
-use Rattle.agent_server.specs.SocketReading.{IsLast, MayTake, datagrams, input_of}
+use Rattle.agent_server.specs.SocketReading.{IsLast, SocketMayTake, datagrams, input_of}
 use Rattle.agent_server.proofs.EntryLemmas.{less-length}
 
 abbrev answer : List Output → Bool → Option LinkCause → Heard
@@ -61,9 +61,9 @@ left : IsLast (Some (Tick, answer [] false (Some (PeerLeft 0)))) → ⊥
 left last = cc
 
 -- a datagram of the other port isn't this reader's
-other-port : MayTake Acct 0 (Some (input_of Auth first, answer [] false None)) → ⊥
+other-port : SocketMayTake Acct 0 (Some (input_of Auth first, answer [] false None)) → ⊥
 other-port same = cc
 
 -- nor does it ask to leave before 16 receives in a row failed
-early-leave : MayTake Auth 15 (Some (Leave, answer [] false None)) → ⊥
+early-leave : SocketMayTake Auth 15 (Some (Leave, answer [] false None)) → ⊥
 early-leave full = cc

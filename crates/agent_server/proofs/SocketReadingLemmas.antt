@@ -1,9 +1,10 @@
 -- How a reader of a socket goes on from look to look.
 use Rattle.std.proofs.Common.{◌≡◌, ℕ, ◌+◌, ◌-◌, ◌^◌, ◌<◌, ◌≤◌, ◌==◌, min, Bool, true, false, cond, List, [], ◌∷◌, ◌++◌, All, Option, Some, None, option_map, MatchBool, refl, sym, ap, ◌∙◌, subst, append_assoc, inl, inr, arith}
 use Rattle.std.proofs.lemmas.Grind.{flat_map-append}
-use Rattle.std.proofs.lemmas.Bool.{MatchBool-at_true, MatchBool-at_false}
+use Rattle.std.proofs.lemmas.Bool.{MatchBool-at_true, MatchBool-at_false, cases_order}
 use Rattle.std.proofs.lemmas.List.Elements.{All-append, All-cons, All-nil, All-weaker}
 use Rattle.std.proofs.lemmas.List.Sums.{sum_by-append}
+use Rattle.wire_core.specs.Counts.{Rose}
 use Rattle.radius_packet.specs.declared.reasons.Via.{Via}
 use Rattle.agent_core.specs.declared.events.Input.{Input}
 use Rattle.agent_core.specs.declared.events.Input.TheVariants as inputs
@@ -18,7 +19,7 @@ use Rattle.agent_server.specs.declared.socket_reader.ReadCounts.{ReadCounts}
 use Rattle.agent_server.specs.Entries.{EndsWith, Less, RunTurn, entry_replies, is_entry_of, is_tick, replies, reply_of, ticks, turn_of}
 use Rattle.agent_server.specs.Entries.Less.{empty, keeps, loses}
 use Rattle.agent_server.specs.Going.{Went}
-use Rattle.agent_server.specs.SocketReading.{AddsAtLeast, Hands, IsLast, IsOver, MayAsk, MayTake, Reads, ReadsOnce, ReadsSocket, datagram_in, datagrams, entry_datagram, input_of, is_last}
+use Rattle.agent_server.specs.SocketReading.{AddsAtLeast, Hands, IsLast, Reads, ReadsOnce, ReadsSocket, SocketMayAsk, SocketMayTake, StopsReading, datagram_in, datagrams, entry_datagram, input_of, is_last}
 use Rattle.agent_server.proofs.EntryLemmas.{less-append}
 use Rattle.agent_server.proofs.GoingLemmas.{went-none, went-on}
 
@@ -54,7 +55,29 @@ at_least-one {a} {b} adds = record { still = λ n is. by a n (adds.still n is) }
     by (Some m) n is = let same : m + 1 ≡ n = cc in (m, refl, omega (arith, same))
 
 pub hands-none : (s : Socket) → Hands s s []
-hands-none s = record { handed = Adds-none s.handed; received = refl; idle = refl; row = refl }
+hands-none s = record { handed = Adds-none s.handed; received = refl; idle = refl; row = refl; grows = omega arith }
+
+-- the count of faults never fell, and it rose where more receives in a row failed
+record CountsFaults (s t : Socket) : Type 0 where
+  grows : s.faults ≤ t.faults
+  failed : s.row < t.row → Rose s.faults t.faults
+
+-- no receive failed
+faults-same : (s t : Socket) → t.faults ≡ s.faults → t.row ≡ 0 → CountsFaults s t
+faults-same s t same low = record { grows = omega (arith, same); failed = λ more. absurd (omega (arith, more, low)) }
+
+faults-rise : (s t : Socket) → FailedToReceive s t → CountsFaults s t
+faults-rise s t failed = let rises = failed.faults in record { grows = omega (arith, rises); failed = λ more. omega (arith, rises) }
+
+rose-then : (s t u : Socket) → CountsFaults s t → t.faults ≤ u.faults → (t.row < u.row → Rose t.faults u.faults) → s.row < u.row → Rose s.faults u.faults
+rose-then s t u one grows failed more =
+    elim (cases_order t.row u.row) as (λ _. Rose s.faults u.faults) [
+      | inl same ↦ let rose = one.failed (omega (arith, more, same)) in omega (arith, rose, grows)
+      | inr either ↦ elim either as (λ _. Rose s.faults u.faults) [
+        | inl less ↦ let rose = failed less in let before = one.grows in omega (arith, rose, before)
+        | inr fewer ↦ let rose = one.failed (omega (arith, more, fewer)) in omega (arith, rose, grows)
+      ]
+    ]
 
 -- ---- turns of a reader
 
@@ -68,10 +91,12 @@ reads-on via mine more s t u n m low one two = record {
       (less-append one.got (datagrams mine) n two.got (datagrams more) m one.entered two.entered);
   handed = subst (Adds s.handed u.handed) (sym (flat_map-append (entry_replies reply_of) mine more)) (Adds-append one.handed two.handed);
   idle = subst (AddsAtLeast s.idle u.idle) (sym (sum_by-append (λ turn. cond (is_entry_of is_tick turn) 1 0) mine more)) (at_least-on one.idle two.idle);
-  asks = All-append (MayTake via u.row) mine more (All-weaker (MayTake via t.row) (MayTake via u.row) (earlier via t.row u.row low) mine one.asks) two.asks;
+  asks = All-append (SocketMayTake via u.row) mine more (All-weaker (SocketMayTake via t.row) (SocketMayTake via u.row) (earlier via t.row u.row low) mine one.asks) two.asks;
+  grows = omega (arith, one.grows, two.grows);
+  failed = rose-then s t u (record { grows = one.grows; failed = one.failed }) two.grows two.failed;
 }
   where
-    asked : (via : Via) (row later : ℕ) → row < 16 → (ask : Input) → MayAsk via row ask → MayAsk via later ask
+    asked : (via : Via) (row later : ℕ) → row < 16 → (ask : Input) → SocketMayAsk via row ask → SocketMayAsk via later ask
     asked via row later low (inputs.Datagram port_via address port octets) may = may
     asked via row later low inputs.Tick may = tt
     asked via row later low inputs.Leave may = absurd (omega (arith, low, may))
@@ -82,38 +107,40 @@ reads-on via mine more s t u n m low one two = record {
     asked via row later low (inputs.Message octets) may = may
     asked via row later low (inputs.Broken fault) may = may
 
-    earlier : (via : Via) (row later : ℕ) → row < 16 → (turn : RunTurn) → MayTake via row turn → MayTake via later turn
+    earlier : (via : Via) (row later : ℕ) → row < 16 → (turn : RunTurn) → SocketMayTake via row turn → SocketMayTake via later turn
     earlier via row later low None may = tt
     earlier via row later low (Some entry) may = asked via row later low entry.0 may
 
 -- a look and the turns that follow from it, and what was handed to the socket then
 reads-by : (via : Via) (mine : List RunTurn) (got : List Datagram) (out : ℕ) (s t u : Socket)
     → Adds s.received t.received got → t.handed ≡ s.handed → AddsAtLeast s.idle t.idle (ticks mine)
-    → Less got (datagrams mine) out → Hands t u (replies mine) → All (MayTake via u.row) mine
+    → Less got (datagrams mine) out → CountsFaults s t → Hands t u (replies mine) → All (SocketMayTake via u.row) mine
     → Reads via mine s u out
-reads-by via mine got out s t u received same idle entered hands asks = record {
+reads-by via mine got out s t u received same idle entered faults hands asks = record {
   got = got;
   received = subst (λ r. Adds s.received r got) (sym hands.received) received;
   entered = entered;
   handed = subst (λ h. Adds h u.handed (replies mine)) same hands.handed;
   idle = subst (λ i. AddsAtLeast s.idle i (ticks mine)) (sym hands.idle) idle;
   asks = asks;
+  grows = omega (arith, faults.grows, hands.grows);
+  failed = rose-then s t u faults hands.grows (λ more. absurd (omega (arith, more, hands.row)));
 }
 
 single : {A : Type 0} (P : A → Type 0) (x : A) → P x → All P (x ∷ [])
 single P x has = All-cons P x [] has (All-nil P)
 
 -- a visit with what may be asked
-may-take : (via : Via) (row : ℕ) (ask : Input) (heard : Option Heard) → MayAsk via row ask → All (MayTake via row) (turn_of ask heard ∷ [])
-may-take via row ask None may = single (MayTake via row) None tt
-may-take via row ask (Some h) may = single (MayTake via row) (Some (ask, h)) may
+may-take : (via : Via) (row : ℕ) (ask : Input) (heard : Option Heard) → SocketMayAsk via row ask → All (SocketMayTake via row) (turn_of ask heard ∷ [])
+may-take via row ask None may = single (SocketMayTake via row) None tt
+may-take via row ask (Some h) may = single (SocketMayTake via row) (Some (ask, h)) may
 
 no_datagram : (ask : Input) (heard : Option Heard) → datagram_in ask ≡ [] → Less [] (datagrams (turn_of ask heard ∷ [])) 0
 no_datagram ask None is = empty
 no_datagram ask (Some h) is = rw is empty
 
 -- whether a turn is the last, where no receive failed
-over-by : (row : ℕ) (mine : List RunTurn) (over : Bool) → row ≡ 0 → (over ≡ true → EndsWith IsLast mine) → MatchBool over (IsOver row mine) (row < 16)
+over-by : (row : ℕ) (mine : List RunTurn) (over : Bool) → row ≡ 0 → (over ≡ true → EndsWith IsLast mine) → MatchBool over (StopsReading row mine) (row < 16)
 over-by row mine true low last = inr (last refl)
 over-by row mine false low last = omega (arith, low)
 
@@ -133,7 +160,7 @@ module _ {C : Type 0} (via : Via) (k l : Known (AgentDesk C) Input Heard) (s t u
         out = 0;
         went = went;
         reads = reads-by via mine (d ∷ []) 0 s t u gave.received gave.handed (at_least-none gave.idle) (keeps d [] [] 0 empty)
-            hands (may-take via u.row (input_of via d) (Some heard) refl);
+            (faults-same s t gave.faults gave.row) hands (may-take via u.row (input_of via d) (Some heard) refl);
         counted = omega (arith, few);
         row = sym low;
         last = over-by u.row mine (is_last heard) low (λ is. ([], Some (input_of via d, heard), refl, is));
@@ -149,7 +176,7 @@ module _ {C : Type 0} (via : Via) (k l : Known (AgentDesk C) Input Heard) (s t u
         out = 1;
         went = went;
         reads = reads-by via (None ∷ []) (d ∷ []) 1 s t u gave.received gave.handed (at_least-none gave.idle) (loses d [] [] 0 empty)
-            hands (may-take via u.row (input_of via d) None refl);
+            (faults-same s t gave.faults gave.row) hands (may-take via u.row (input_of via d) None refl);
         counted = refl;
         row = sym low;
         last = omega (arith, low);
@@ -162,7 +189,7 @@ module _ {C : Type 0} (via : Via) (k l : Known (AgentDesk C) Input Heard) (s t u
     out = 1;
     went = went-none k;
     reads = reads-by via [] (d ∷ []) 1 s t t gave.received gave.handed (at_least-none gave.idle) (loses d [] [] 0 empty)
-        (hands-none t) (All-nil (MayTake via t.row));
+        (faults-same s t gave.faults gave.row) (hands-none t) (All-nil (SocketMayTake via t.row));
     counted = refl;
     row = sym gave.row;
     last = omega (arith, gave.row);
@@ -179,7 +206,7 @@ module _ {C : Type 0} (via : Via) (k l : Known (AgentDesk C) Input Heard) (s t u
         out = 0;
         went = went;
         reads = reads-by via mine [] 0 s t u (Adds-same found.received) found.handed (tick heard) (no_datagram inputs.Tick heard refl)
-            hands (may-take via u.row inputs.Tick heard tt);
+            (faults-same s t found.faults found.row) hands (may-take via u.row inputs.Tick heard tt);
         counted = omega (arith, few);
         row = sym low;
         last = over-by u.row mine (stopped heard) low (ends heard);
@@ -202,7 +229,7 @@ module _ {C : Type 0} (via : Via) (k l : Known (AgentDesk C) Input Heard) (s t u
         out = 0;
         went = went-none k;
         reads = reads-by via [] [] 0 s t t (Adds-same failed.received) failed.handed (at_least-none failed.idle) empty
-            (hands-none t) (All-nil (MayTake via t.row));
+            (faults-rise s t failed) (hands-none t) (All-nil (SocketMayTake via t.row));
         counted = omega (arith, few);
         row = row;
         last = omega (arith, row, few_failed);
@@ -220,7 +247,7 @@ module _ {C : Type 0} (via : Via) (k l : Known (AgentDesk C) Input Heard) (s t u
         out = 0;
         went = went;
         reads = reads-by via mine [] 0 s t u (Adds-same failed.received) failed.handed (tick heard) (no_datagram inputs.Leave heard refl)
-            hands (may-take via u.row inputs.Leave heard full);
+            (faults-rise s t failed) hands (may-take via u.row inputs.Leave heard full);
         counted = omega (arith, few);
         row = row;
         last = inl full;
@@ -248,7 +275,7 @@ module _ {C : Type 0} (via : Via) (k : Known (AgentDesk C) Input Heard) (s : Soc
     mine = [];
     out = 0;
     went = went-none k;
-    reads = reads-by via [] [] 0 s s s (Adds-none s.received) refl (at_least-none refl) empty (hands-none s) (All-nil (MayTake via s.row));
+    reads = reads-by via [] [] 0 s s s (Adds-none s.received) refl (at_least-none refl) empty (faults-same s s refl low) (hands-none s) (All-nil (SocketMayTake via s.row));
     counted = omega arith;
     row = sym low;
     low = omega (arith, low);
@@ -264,7 +291,7 @@ module _ {C : Type 0} (via : Via) (k : Known (AgentDesk C) Input Heard) (s : Soc
     reads = reads-on via so_far.mine once.mine s t u so_far.out once.out so_far.low so_far.reads once.reads;
     counted = omega (arith, so_far.counted, once.counted);
     row = once.row;
-    low = MatchBool-at_false (IsOver u.row once.mine) (u.row < 16) on once.last;
+    low = MatchBool-at_false (StopsReading u.row once.mine) (u.row < 16) on once.last;
   }
 
   -- the last one
@@ -276,12 +303,12 @@ module _ {C : Type 0} (via : Via) (k : Known (AgentDesk C) Input Heard) (s : Soc
     went = went-on so_far.mine once.mine k l m so_far.went once.went;
     served = record {
       reads = reads-on via so_far.mine once.mine s t u so_far.out once.out so_far.low so_far.reads once.reads;
-      last = by (MatchBool-at_true (IsOver u.row once.mine) (u.row < 16) done once.last);
+      last = by (MatchBool-at_true (StopsReading u.row once.mine) (u.row < 16) done once.last);
     };
     lost_is = omega (arith, so_far.counted, once.counted);
     fault = ap (λ n. n == 16) once.row;
   }
     where
-      by : IsOver u.row once.mine → IsOver u.row (so_far.mine ++ once.mine)
+      by : StopsReading u.row once.mine → StopsReading u.row (so_far.mine ++ once.mine)
       by (inl full) = inl full
       by (inr ends) = inr (ends-after so_far.mine once.mine ends)

@@ -2,7 +2,7 @@
 use Rattle.std.proofs.Common.{◌≡◌, ℕ, suc, ◌+◌, ◌-◌, ◌^◌, ◌<◌, ◌≤◌, ◌==◌, ◌⊎◌, inl, inr, Bool, true, false, cond, max, nat_le, ◌||◌, List, [], ◌∷◌, ◌++◌, length, option_to_list, if◌then◌else◌, Option, Some, None, refl, sym, ◌∙◌, ap, subst, append_assoc, arith}
 use Rattle.std.specs.List.{All}
 use Rattle.std.specs.Option.{option_or}
-use Rattle.std.proofs.lemmas.Bool.{leb-true, le-leb}
+use Rattle.std.proofs.lemmas.Bool.{leb-true, le-leb, or_cases}
 use Rattle.std.proofs.lemmas.List.{append-nil, length-append}
 use Rattle.std.proofs.lemmas.List.Elements.{All-head, All-nil, All-push, All-tail}
 use Rattle.agent_config.specs.declared.config.Config.{Config}
@@ -22,6 +22,7 @@ use Rattle.agent_server.specs.Runs.{IsRun, IsRunFrom, closed, event_of, handed_o
 use Rattle.agent_server.specs.Spans.{AreSpans, ClosingsFit, IsClosed, IsSpan, IsWithin, ServerTurn, SpanFits, SpansFit, causes_in, closings, flat, is_beginning, link_sends}
 use Rattle.agent_server.proofs.LinkHistory.{IsShut, Moves, closed-phase, moves-at, or-none, shut-more}
 use Rattle.agent_server.proofs.PlaceLemmas.{place-at}
+use Rattle.agent_server.proofs.TurnLemmas.{plain-append}
 
 -- ---- runs
 
@@ -58,10 +59,6 @@ pub run-at : (config : Config) (until : ℕ) (front back : List RunTurn) (ask : 
     → heard ≡ heard_at until (place config (places_of config front) (event_of ask heard)) (places_of config front)
 run-at config until front back ask heard run = (run-on config until [] front (Some (ask, heard) ∷ back) run).0
 
-or-cases : (b c : Bool) → (b || c) ≡ true → (b ≡ true) ⊎ (c ≡ true)
-or-cases true c is = inl refl
-or-cases false c is = inr is
-
 -- a run is at its end where its time is over or the agent wanted to end
 pub finished-by : (config : Config) (until : ℕ) (front back : List RunTurn) (ask : Input) (heard : Heard)
     → IsRun config until (front ++ Some (ask, heard) ∷ back) → heard.finished ≡ true
@@ -71,7 +68,7 @@ finished-by config until front back ask heard run finished =
     let p = place config ps (event_of ask heard) in
     let is = run-at config until front back ask heard run in
     let at = place-at config ps (event_of ask heard) in
-    elim (or-cases (has_left (p ∷ ps)) (nat_le until p.moment) (sym (ap (λ (h : Heard). h.finished) is) ∙ finished))
+    elim (or_cases (has_left (p ∷ ps)) (nat_le until p.moment) (sym (ap (λ (h : Heard). h.finished) is) ∙ finished))
     as (λ _. (until ≤ heard.moment) ⊎ ((has_left ps || is_leave ask) ≡ true)) [
       | inl left ↦ inr (ap (λ (i : Input). has_left ps || is_leave i) (sym at.input) ∙ left)
       | inr late ↦ inl (subst (λ (m : ℕ). until ≤ m) (sym (ap (λ (h : Heard). h.moment) is)) (leb-true until p.moment late))
@@ -100,7 +97,7 @@ leave-from config ps (Some entry ∷ turns) left =
     let e = event_of entry.0 entry.1 in
     let at = place-at config ps e in
     elim (leave-from config (place config ps e ∷ ps) turns left) as (λ _. (has_left ps ≡ true) ⊎ HasLeave (Some entry ∷ turns)) [
-      | inl before ↦ elim (or-cases (has_left ps) (is_leave (place config ps e).input) before) as (λ _. (has_left ps ≡ true) ⊎ HasLeave (Some entry ∷ turns)) [
+      | inl before ↦ elim (or_cases (has_left ps) (is_leave (place config ps e).input) before) as (λ _. (has_left ps ≡ true) ⊎ HasLeave (Some entry ∷ turns)) [
         | inl earlier ↦ inl earlier
         | inr here ↦ inr (leave-here entry.0 entry.1 turns (ap is_leave (sym at.input) ∙ here))
       ]
@@ -161,10 +158,6 @@ pub closed-stays : (config : Config) (until : ℕ) (front more : List RunTurn) (
 closed-stays config until front more cause run each is = stays config front more cause each is
 
 -- ---- turns with their numbers
-
-pub plain-append : (xs ys : List ServerTurn) → plain (xs ++ ys) ≡ plain xs ++ plain ys
-plain-append [] ys = refl
-plain-append (x ∷ xs) ys = ap (λ l. x.1 ∷ l) (plain-append xs ys)
 
 -- nothing begins within a span
 pub within-each : (turns : List ServerTurn) → All IsWithin turns → EachEntry (λ ask heard. is_beginning ask ≡ false) (plain turns)

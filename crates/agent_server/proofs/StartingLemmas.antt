@@ -1,11 +1,10 @@
 -- How a run starts, and how it ends where no worker was started.
-use Rattle.std.proofs.Common.{◌≡◌, ◌≢◌, ℕ, zero, suc, ◌+◌, ◌<◌, ◌≤◌, ◌⊎◌, inl, inr, max, Bool, true, false, cond, ◌||◌, List, [], ◌∷◌, ◌++◌, length, Option, Some, None, Result, Ok, Err, IfOk, IfSome, is_some, Global, vec_capacity, refl, sym, ap, ◌∙◌, subst, append_assoc, arith}
+use Rattle.std.proofs.Common.{◌≡◌, ◌≢◌, ℕ, zero, suc, ◌+◌, ◌<◌, ◌≤◌, ◌⊎◌, inl, inr, max, Bool, true, false, cond, ◌||◌, List, [], ◌∷◌, ◌++◌, length, Option, Some, None, Result, Ok, Err, IfOk, IfErr, IfSome, MatchResult, is_some, vec_capacity, refl, sym, ap, ◌∙◌, subst, append_assoc, arith}
 use Rattle.std.proofs.lemmas.Bool.{cases_order}
 use Rattle.std.proofs.lemmas.List.{append-nil, same_from_push}
 use Rattle.std.proofs.lemmas.List.Elements.{All-nil}
 use Rattle.std.proofs.lemmas.List.Sums.{count_by-le-length, sum_by-append}
 use Rattle.std.specs.Bool.{then_some}
-use Rattle.std.specs.declared.sync.Arc.{Arc}
 use Rattle.wire_core.specs.Counts.{Rose}
 use Rattle.atomic_table.specs.Seated.{TableId}
 use Rattle.radius_packet.specs.declared.reasons.Via.{Via}
@@ -14,13 +13,13 @@ use Rattle.agent_config.specs.declared.config.Config.{Config}
 use Rattle.agent_status.specs.declared.status.Status.{Status}
 use Rattle.agent_status.specs.declared.status.Status.TheVariants.{DatagramFault, LinkFault, OutOfMemory}
 use Rattle.wire_devices.specs.Dialling.{Dials}
-use Rattle.wire_devices.specs.Links.{Inlet, Outlet}
+use Rattle.wire_devices.specs.Links.{Inlet, IsFreshInlet, Outlet}
 use Rattle.wire_devices.specs.Sockets.{Socket, IsFreshSocket}
 use Rattle.wire_devices.specs.Telling.{TellsOnly}
 use Rattle.turnstile.specs.declared.pass.PassOf.{PassOf}
 use Rattle.turnstile.specs.declared.view.Known.{Known}
 use Rattle.turnstile.specs.Knowing.{Carries, left_of, right_of}
-use Rattle.turnstile.specs.Passes.{known, table_of}
+use Rattle.turnstile.specs.Passes.{known}
 use Rattle.turnstile.specs.Turns.{In, Numbered, greatest, least, of, plain, without}
 use Rattle.agent_core.specs.declared.events.Input.{Input}
 use Rattle.agent_core.specs.declared.events.Input.TheVariants as inputs
@@ -30,8 +29,12 @@ use Rattle.agent_server.specs.declared.desk.RunBase.{RunBase}
 use Rattle.agent_server.specs.declared.heard.Heard.{Heard}
 use Rattle.agent_server.specs.declared.link_making.Dialling.TheVariants as dialling
 use Rattle.agent_server.specs.declared.running.Past.{Past}
+use Rattle.agent_server.specs.declared.running.Twins.{Twins}
 use Rattle.agent_server.specs.declared.server.FirstLink.{FirstLink}
 use Rattle.agent_server.specs.declared.server.Stand.{Stand}
+use Rattle.agent_server.specs.declared.server.Team.{Team}
+use Rattle.agent_server.specs.declared.server.Unteamed.{Unteamed}
+use Rattle.agent_server.specs.declared.server.Workers.{Workers}
 use Rattle.agent_server.specs.declared.trail.Pair.{Pair}
 use Rattle.agent_server.specs.declared.trail.Trail.{Trail}
 use Rattle.agent_server.specs.declared.workers.Ended.TheVariants as ended
@@ -47,8 +50,9 @@ use Rattle.agent_server.specs.Serving.{IsTick}
 use Rattle.agent_server.specs.Serving.Spans.{no_more}
 use Rattle.agent_server.specs.SocketReading.{ReadsSocket}
 use Rattle.agent_server.specs.Spans.{IsClosed, ServerTurn}
-use Rattle.agent_server.specs.Starting.{Alike, FinishedAlone, FirstFails, FirstOpened, IsAlone, IsRead, IsSocketBack, StartsFor}
-use Rattle.agent_server.specs.Workers.{Ran}
+use Rattle.agent_server.specs.Starting.{Alike, FinishedAlone, FirstFails, FirstOpened, IsAlone, IsLinkReader, IsLinkReaderOf, IsRead, IsReader, IsReaderOf, IsSocketBack, IsStart, StartsFor}
+use Rattle.agent_server.specs.Workers.{CanRun, Ran}
+use Rattle.agent_server.proofs.AskingLemmas.{each-at}
 use Rattle.agent_server.proofs.GoingLemmas.{went-on}
 use Rattle.agent_server.proofs.LinkOverLemmas.{each-weaker}
 use Rattle.agent_server.proofs.SpanLemmas.{finished-by, leave-there}
@@ -148,21 +152,26 @@ module _ {C D I O : Type 0} (told : D → Socket) (hears : I → Inlet) (speaks 
         };
         dialled = subst (λ (ts : List RunTurn). RoseBy (ticks ts) d.faults e.faults) (sym now.0)
             (let few = up-ticks mine heard in let rose = dialled.faults in omega (arith, few, rose));
+        grows = dialled.grows;
         row = dialled.ends.0;
       }
 
 module _ {C I O : Type 0} (hears : I → Inlet) (speaks : O → Outlet) where
   -- the run was at its end before a link was made
-  pub dial-finished : (k l : Known (AgentDesk C) Input Heard) (d e : Dials) (mine : List RunTurn) → k.numbers ≡ 0 ∷ 1 ∷ 2 ∷ 3 ∷ [] → k.seen ≡ [] → Went mine k l
-      → Dialled hears speaks dialling.Finished mine d e → (0 < e.row) × FinishedAlone l.seen
-  dial-finished k l d e mine numbers none went dialled =
-      let now = alone-went k l mine numbers none went in (
-        dialled.ends.0,
-        record {
-          asks = subst (EachEntry (λ ask heard. IsTick ask)) (sym now.0) dialled.asks;
-          last = subst (λ (ts : List RunTurn). (front : List RunTurn) × (x : RunTurn) × (ts ≡ front ++ x ∷ []) × IsFinishedTick x) (sym now.0) dialled.ends.1;
-          alone = now.1;
-        },
+  pub dial-finished : (k l : Known (AgentDesk C) Input Heard) (d e : Dials) (mine : List RunTurn) → d.row ≡ 0 → k.numbers ≡ 0 ∷ 1 ∷ 2 ∷ 3 ∷ [] → k.seen ≡ []
+      → Went mine k l → Dialled hears speaks dialling.Finished mine d e → Rose d.faults e.faults × ((e.row ≡ 16) ⊎ ((0 < e.row) × FinishedAlone l.seen))
+  dial-finished k l d e mine low numbers none went dialled =
+      let now = alone-went k l mine numbers none went in
+      let some = dialled.ends.0 in (
+        dialled.failed (omega (arith, low, some)),
+        inr (
+          some,
+          record {
+            asks = subst (EachEntry (λ ask heard. IsTick ask)) (sym now.0) dialled.asks;
+            last = subst (λ (ts : List RunTurn). (front : List RunTurn) × (x : RunTurn) × (ts ≡ front ++ x ∷ []) × IsFinishedTick x) (sym now.0) dialled.ends.1;
+            alone = now.1;
+          },
+        ),
       )
 
 -- ---- the clock's readings
@@ -175,11 +184,6 @@ plain-own ((suc zero, x) ∷ seen) numbered alone = let e : x ∷ of 1 seen ≡ 
 plain-own ((suc (suc zero), x) ∷ seen) numbered alone = let e : x ∷ of 2 seen ≡ [] = alone.1 in cc
 plain-own ((suc (suc (suc zero)), x) ∷ seen) numbered alone = let e : x ∷ of 3 seen ≡ [] = alone.2 in cc
 plain-own ((suc (suc (suc (suc n))), x) ∷ seen) numbered alone = let low = numbered.0 in absurd (omega (arith, low))
-
-each-at : (P : Input → Heard → Type 0) (front back : List RunTurn) (ask : Input) (heard : Heard) → EachEntry P (front ++ Some (ask, heard) ∷ back) → P ask heard
-each-at P [] back ask heard each = each.0
-each-at P (None ∷ front) back ask heard each = each-at P front back ask heard each
-each-at P (Some entry ∷ front) back ask heard each = each-at P front back ask heard each.1
 
 at-or-below : (a b : ℕ) → (a ≤ b) ⊎ (b < a)
 at-or-below a b = elim (cases_order a b) as (λ _. (a ≤ b) ⊎ (b < a)) [
@@ -277,8 +281,10 @@ pub record Splits {C : Type 0} (k l link acct auth : Known (AgentDesk C) Input H
   pub link_first : link.first ≡ l.first
   pub acct_numbers : acct.numbers ≡ 2 ∷ []
   pub acct_seen : acct.seen ≡ l.seen
+  pub acct_first : acct.first ≡ l.first
   pub auth_numbers : auth.numbers ≡ 1 ∷ []
   pub auth_seen : auth.seen ≡ l.seen
+  pub auth_first : auth.first ≡ l.first
 
 module _ {C : Type 0} where
   -- what is left of the numbers, and which is given away
@@ -304,7 +310,9 @@ module _ {C : Type 0} where
       let link_seen : link.seen ≡ k.seen = ap seen link_is in
       let link_first : link.first ≡ k.first = ap first link_is in
       let acct_seen : acct.seen ≡ l1.seen = ap seen acct_is in
+      let acct_first : acct.first ≡ l1.first = ap first acct_is in
       let auth_seen : auth.seen ≡ l2.seen = ap seen auth_is in
+      let auth_first : auth.first ≡ l2.first = ap first auth_is in
       record {
         own = left-numbers l2 l3 (0 ∷ 1 ∷ []) l3_is two;
         seen = seen3 ∙ seen2 ∙ seen1;
@@ -314,57 +322,112 @@ module _ {C : Type 0} where
         link_first = link_first ∙ sym (first3 ∙ first2 ∙ first1);
         acct_numbers = right-numbers l1 acct (0 ∷ 1 ∷ 2 ∷ []) acct_is one;
         acct_seen = acct_seen ∙ sym (seen3 ∙ seen2);
+        acct_first = acct_first ∙ sym (first3 ∙ first2);
         auth_numbers = right-numbers l2 auth (0 ∷ 1 ∷ []) auth_is two;
         auth_seen = auth_seen ∙ sym seen3;
+        auth_first = auth_first ∙ sym first3;
       }
 
 -- ---- what the workers begin with
 
 module _ {C D I O : Type 0} (told : D → Socket) (hears : I → Inlet) (speaks : O → Outlet) where
-  pub link-started : (turnstile : TableId) (k l acct auth : Known (AgentDesk C) Input Heard) (handed : Worker C D I) (alloc : Global)
-      (shared : Arc TableId Global) (pass : PassOf (AgentDesk C) Input Heard) (first : FirstLink D I O) (past : Past I O) (d e : Dials)
-      → handed ≡ worker.Link alloc shared pass first.pair.link_in first.twins.auth first.twins.acct → table_of pass ≡ turnstile
-      → Splits k l (known pass) acct auth → FirstOpened hears speaks told first k.seen d e
+  pub link-started : (turnstile : TableId) (k l : Known (AgentDesk C) Input Heard) (handed : Worker C D I) (first : FirstLink D I O) (past : Past I O) (d e : Dials)
+      → IsLinkReaderOf turnstile 3 l first.pair.link_in first.twins handed → l.numbers ≡ 0 ∷ [] → l.seen ≡ k.seen → FirstOpened hears speaks told first k.seen d e
       → past.pairs.items ≡ [] → past.lost ≡ 0 → past.again ≡ 0 → 256 ≤ vec_capacity past.pairs
       → StartedAs hears speaks told turnstile l handed first.pair.link_out past
-  link-started turnstile k l acct auth handed alloc shared pass first past d e is table splits opened none lost again room =
-      let three : of 3 l.seen ≡ [] = ap (of 3) splits.seen ∙ opened.alone.2 in
-      subst (λ (w : Worker C D I). StartedAs hears speaks told turnstile l w first.pair.link_out past) (sym is) (record {
-        table = table;
-        mine = splits.own;
-        theirs = splits.link_numbers;
-        seen = splits.link_seen;
-        first = splits.link_first;
-        fresh_in = opened.fresh_in;
+  link-started turnstile k l (worker.Link alloc shared pass link auth acct) first past d e (place, link_is, auth_is, acct_is) own seen opened none lost again room =
+      let three : of 3 l.seen ≡ [] = ap (of 3) seen ∙ opened.alone.2 in
+      record {
+        table = place.table;
+        mine = own;
+        theirs = place.numbers;
+        seen = place.seen;
+        first = place.first;
+        fresh_in = subst (λ (i : I). IsFreshInlet (hears i)) (sym link_is) opened.fresh_in;
         fresh_out = opened.fresh_out;
         out = 0;
         retries = 0;
         few = omega (arith, ap length none);
         opened = subst (λ (ps : List (Pair I O)). Opened hears speaks ps l.seen 0 0) (sym none)
-            (subst (λ (ts : List ServerTurn). Opened hears speaks [] ts 0 0) (sym splits.seen) opened.opened);
+            (subst (λ (ts : List ServerTurn). Opened hears speaks [] ts 0 0) (sym seen) opened.opened);
         tally = record {
           lost = lost;
           again = again;
-          auth_handed = subst (λ (ts : List RunTurn). TellsOnly (told first.twins.auth).handed (replies_by Auth ts)) (sym three) opened.auth.handed;
-          acct_handed = subst (λ (ts : List RunTurn). TellsOnly (told first.twins.acct).handed (replies_by Acct ts)) (sym three) opened.acct.handed;
+          auth_handed = subst (λ (twin : D). TellsOnly (told twin).handed (replies_by Auth (of 3 l.seen))) (sym auth_is)
+              (subst (λ (ts : List RunTurn). TellsOnly (told first.twins.auth).handed (replies_by Auth ts)) (sym three) opened.auth.handed);
+          acct_handed = subst (λ (twin : D). TellsOnly (told twin).handed (replies_by Acct (of 3 l.seen))) (sym acct_is)
+              (subst (λ (ts : List RunTurn). TellsOnly (told first.twins.acct).handed (replies_by Acct ts)) (sym three) opened.acct.handed);
           room = room;
         };
-      })
+      }
+  link-started turnstile k l (worker.Reader alloc shared pass via socket) first past d e is own seen opened none lost again room = absurd is
 
-  pub reader-starts : (via : Via) (n : ℕ) (k l : Known (AgentDesk C) Input Heard) (handed : Worker C D I) (alloc : Global) (shared : Arc TableId Global)
-      (pass : PassOf (AgentDesk C) Input Heard) (socket : D) (before : Socket) → handed ≡ worker.Reader alloc shared pass via socket
-      → (known pass).numbers ≡ n ∷ [] → (known pass).seen ≡ l.seen → l.seen ≡ k.seen → of n k.seen ≡ [] → Alike before (told socket)
+module _ {C D I : Type 0} (told : D → Socket) where
+  pub reader-starts : (turnstile : TableId) (via : Via) (n : ℕ) (k l : Known (AgentDesk C) Input Heard) (handed : Worker C D I) (device : D) (before : Socket)
+      → IsReaderOf turnstile n via l device handed → l.seen ≡ k.seen → of n k.seen ≡ [] → Alike before (told device) → before.row ≡ 0
       → StartsFor told via n l before handed
-  reader-starts via n k l handed alloc shared pass socket before is numbers seen same none alike =
-      subst (StartsFor told via n l before) (sym is) (
-        refl,
-        record {
-          numbers = numbers;
-          seen = seen;
-          none = ap (of n) same ∙ none;
-          alike = alike;
-        },
-      )
+  reader-starts turnstile via n k l (worker.Reader alloc shared pass port socket) device before (place, same, is) seen none alike low = (
+    same,
+    record {
+      numbers = place.numbers;
+      seen = place.seen;
+      none = ap (of n) seen ∙ none;
+      alike = subst (λ (d : D). Alike before (told d)) (sym is) alike;
+      row = low;
+    },
+  )
+  reader-starts turnstile via n k l (worker.Link alloc shared pass link auth acct) device before is seen none alike low = absurd is
+
+  pub reader-can-run : (hears : I → Inlet) (turnstile : TableId) (n : ℕ) (via : Via) (k : Known (AgentDesk C) Input Heard) (device : D) (handed : Worker C D I)
+      → IsReaderOf turnstile n via k device handed → (told device).row ≡ 0 → CanRun told hears handed
+  reader-can-run hears turnstile n via k device (worker.Reader alloc shared pass port socket) (place, same, is) low =
+      (place.table ∙ sym place.shared, subst (λ (d : D). (told d).row ≡ 0) (sym is) low)
+  reader-can-run hears turnstile n via k device (worker.Link alloc shared pass link auth acct) is low = absurd is
+
+  pub link-can-run : (hears : I → Inlet) (turnstile : TableId) (n : ℕ) (k : Known (AgentDesk C) Input Heard) (inlet : I) (twins : Twins D) (handed : Worker C D I)
+      → IsLinkReaderOf turnstile n k inlet twins handed → IsFreshInlet (hears inlet) → CanRun told hears handed
+  link-can-run hears turnstile n k inlet twins (worker.Link alloc shared pass link auth acct) (place, is, auth_is, acct_is) fresh =
+      (place.table ∙ sym place.shared, subst (λ (i : I). ((hears i).ends ≡ 0) × ((hears i).faults ≡ 0)) (sym is) (fresh.ends, fresh.faults))
+  link-can-run hears turnstile n k inlet twins (worker.Reader alloc shared pass via socket) is fresh = absurd is
+
+module _ {C D I : Type 0} (turnstile : TableId) (n : ℕ) (k : Known (AgentDesk C) Input Heard) where
+  pub reader-at : (via : Via) (device : D) (handed : Worker C D I) → IsReaderOf turnstile n via k device handed → IsReader turnstile n handed
+  reader-at via device (worker.Reader alloc shared pass port socket) (place, same, is) = (place.table, place.numbers)
+  reader-at via device (worker.Link alloc shared pass link auth acct) is = absurd is
+
+  link-reader-at : (inlet : I) (twins : Twins D) (handed : Worker C D I) → IsLinkReaderOf turnstile n k inlet twins handed → IsLinkReader turnstile n handed
+  link-reader-at inlet twins (worker.Link alloc shared pass link auth acct) (place, is, auth_is, acct_is) = (place.table, place.numbers)
+  link-reader-at inlet twins (worker.Reader alloc shared pass via socket) is = absurd is
+
+  -- whether or not it was started
+  reader-back-at : (via : Via) (device : D) (handed : Worker C D I) (start : Result (Worker C D I) (Worker C D I)) → IsReaderOf turnstile n via k device handed → IsStart handed start
+      → MatchResult start (IsReader turnstile n) (IsReader turnstile n)
+  reader-back-at via device handed (Ok started) is same = subst (IsReader turnstile n) (sym same) (reader-at via device handed is)
+  reader-back-at via device handed (Err back) is same = subst (IsReader turnstile n) (sym same) (reader-at via device handed is)
+
+module _ {C D I : Type 0} (turnstile : TableId) (k : Known (AgentDesk C) Input Heard) (auth acct : D) (link : I) (twins : Twins D) (workers : Workers C D I)
+    (auth_is : IsReaderOf turnstile 1 Auth k auth workers.auth) (acct_is : IsReaderOf turnstile 2 Acct k acct workers.acct)
+    (link_is : IsLinkReaderOf turnstile 3 k link twins workers.link) where
+  pub team-of : (r : Result (Team C D I) (Unteamed C D I))
+      → IfOk r (λ team. (team.auth ≡ workers.auth) × (team.acct ≡ workers.acct) × (team.link ≡ workers.link))
+      → IfOk r (λ team. IsReaderOf turnstile 1 Auth k auth team.auth × IsReaderOf turnstile 2 Acct k acct team.acct × IsLinkReaderOf turnstile 3 k link twins team.link)
+  team-of (Ok team) (auth_same, acct_same, link_same) = (
+    subst (IsReaderOf turnstile 1 Auth k auth) (sym auth_same) auth_is,
+    subst (IsReaderOf turnstile 2 Acct k acct) (sym acct_same) acct_is,
+    subst (IsLinkReaderOf turnstile 3 k link twins) (sym link_same) link_is,
+  )
+  team-of (Err team) same = tt
+
+  pub unteamed-of : (r : Result (Team C D I) (Unteamed C D I))
+      → IfErr r (λ team. IsStart workers.auth team.auth × IsStart workers.acct team.acct × (team.link ≡ workers.link))
+      → IfErr r (λ team. MatchResult team.auth (IsReader turnstile 1) (IsReader turnstile 1) × MatchResult team.acct (IsReader turnstile 2) (IsReader turnstile 2)
+      × IsLinkReader turnstile 3 team.link)
+  unteamed-of (Ok team) same = tt
+  unteamed-of (Err team) (auth_same, acct_same, link_same) = (
+    reader-back-at turnstile 1 k Auth auth workers.auth team.auth auth_is auth_same,
+    reader-back-at turnstile 2 k Acct acct workers.acct team.acct acct_is acct_same,
+    subst (IsLinkReader turnstile 3) (sym link_same) (link-reader-at turnstile 3 k link twins workers.link link_is),
+  )
 
 -- ---- the reader of a socket, back
 
@@ -384,13 +447,14 @@ socket-ran told hears (worker.Link alloc shared begun link auth acct) socket pas
 
 -- ---- the end of a run without workers
 
-pub ends-early : {C : Type 0} (readings : C → Option (List ℕ)) (clock : C) (base : RunBase) (seen : List ServerTurn) (status : Status) (dials : Dials) (twin start : Type 0)
-    → IsRead readings clock base seen → FirstFails status seen dials twin → EndsEarly status (readings clock) base.until dials twin start
-ends-early readings clock base seen OutOfMemory dials twin start read fails = tt
-ends-early readings clock base seen LinkFault dials twin start read (inl many) = inl many
-ends-early readings clock base seen LinkFault dials twin start read (inr (some, finished)) = inr (some, finished-passed readings clock base seen read finished)
-ends-early readings clock base seen DatagramFault dials twin start read fails = fails
-ends-early readings clock base seen status dials twin start read fails = absurd fails
+pub ends-early : {C : Type 0} (readings : C → Option (List ℕ)) (clock : C) (base : RunBase) (seen : List ServerTurn) (status : Status) (d e : Dials) (twin start : Type 0)
+    → IsRead readings clock base seen → FirstFails status seen d e twin → EndsEarly status (readings clock) base.until d e twin start
+ends-early readings clock base seen OutOfMemory d e twin start read fails = tt
+ends-early readings clock base seen LinkFault d e twin start read (rose, inl many) = (rose, inl many)
+ends-early readings clock base seen LinkFault d e twin start read (rose, inr (some, finished)) =
+    (rose, inr (some, finished-passed readings clock base seen read finished))
+ends-early readings clock base seen DatagramFault d e twin start read fails = fails
+ends-early readings clock base seen status d e twin start read fails = absurd fails
 
 pub carries-same : {C : Type 0} (readings : C → Option (List ℕ)) (k l : Known (AgentDesk C) Input Heard) (base : RunBase) → l.first ≡ k.first
     → Carries (StandsBy readings) k base → Carries (StandsBy readings) l base

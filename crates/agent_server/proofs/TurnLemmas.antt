@@ -1,4 +1,4 @@
--- Turns of one number among all turns.
+-- One turn among all turns, by its number or without.
 use Rattle.std.proofs.Common.{◌≡◌, ℕ, ◌==◌, Bool, true, false, cond, List, [], ◌∷◌, ◌++◌, refl, sym, ap, ◌∙◌, subst, append_assoc, arith}
 use Rattle.std.proofs.lemmas.Bool.Decides.{nat_tests}
 use Rattle.std.proofs.lemmas.List.{append-nil}
@@ -80,3 +80,37 @@ of-there n (t ∷ ts) a x b is = by (λ a at. of-there n ts a x b at) (n == t.0)
         → cond c (t.1 ∷ of n ts) (of n ts) ≡ a ++ x ∷ b → Stands n (t ∷ ts) a x b
     by later true same at = first later a same at
     by later false other at = stands-later n t ts a x b other (later a at)
+
+-- all turns without their numbers fall apart at one of them as all turns do
+pub record StandsPlain (x : RunTurn) (turns : List ServerTurn) (a b : List RunTurn) : Type 0 where
+  pub number : ℕ
+  pub front : List ServerTurn
+  pub back : List ServerTurn
+  pub whole : turns ≡ front ++ (number, x) ∷ back
+  pub before : plain front ≡ a
+  pub after : plain back ≡ b
+
+plain-later : (x y : RunTurn) (t : ServerTurn) (turns : List ServerTurn) (a b : List RunTurn) → t.1 ≡ y → StandsPlain x turns a b
+    → StandsPlain x (t ∷ turns) (y ∷ a) b
+plain-later x y t turns a b first s = record {
+  number = s.number;
+  front = t ∷ s.front;
+  back = s.back;
+  whole = ap (λ l. t ∷ l) s.whole;
+  before = ap (λ l. t.1 ∷ l) s.before ∙ ap (λ (z : RunTurn). z ∷ a) first;
+  after = s.after;
+}
+
+pub plain-there : (x : RunTurn) (turns : List ServerTurn) (a b : List RunTurn) → plain turns ≡ a ++ x ∷ b → StandsPlain x turns a b
+plain-there x [] [] b is = cc
+plain-there x [] (y ∷ a) b is = cc
+plain-there x (t ∷ turns) [] b is = record {
+  number = t.0;
+  front = [];
+  back = turns;
+  whole = let same : t.1 ≡ x = cc in ap (λ (z : RunTurn). (t.0, z) ∷ turns) same;
+  before = refl;
+  after = cc;
+}
+plain-there x (t ∷ turns) (y ∷ a) b is =
+    plain-later x y t turns a b (let e : t.1 ≡ y = cc in e) (plain-there x turns a b (let e : plain turns ≡ a ++ x ∷ b = cc in e))

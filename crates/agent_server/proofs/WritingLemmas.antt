@@ -1,5 +1,6 @@
 -- How the writer of a link goes on from round to round.
 use Rattle.std.proofs.Common.{◌≡◌, ◌≢◌, ℕ, ◌+◌, ◌<◌, Bool, true, false, not, ◌&&◌, List, [], ◌∷◌, ◌++◌, length, get_or, take, drop, Option, Some, None, if◌then◌else◌, inl, inr, refl, sym, ap, ◌∙◌, subst, append_assoc, arith}
+use Rattle.std.proofs.lemmas.Bool.{true≢false}
 use Rattle.std.proofs.lemmas.List.{append-nil, take-append-drop, take_more}
 use Rattle.std.proofs.lemmas.List.Sums.{sum_by-append}
 use Rattle.wire_core.specs.Counts.{Rose, one_more}
@@ -20,11 +21,8 @@ use Rattle.agent_server.specs.declared.link_writer.WriterEnd.{WriterEnd}
 use Rattle.agent_server.specs.declared.link_writer.WriterEnd.TheVariants.{Closed, Done, NoMemory}
 use Rattle.agent_server.specs.Entries.{EachEntry, RunTurn, blanks, downs, handed_at, octets_in, octets_of, sends, turn_of}
 use Rattle.agent_server.specs.Going.{Went}
-use Rattle.agent_server.specs.LinkWriting.{EndTurns, GoesFor, GoesOn, HasBroken, IsQuiet, IsWriterAsk, LeaveTurns, SentOn, TakesLeave, TookLeave, Wrote, WroteLink, WroteRound, round}
+use Rattle.agent_server.specs.LinkWriting.{EndTurns, GoesFor, HasBroken, IsQuiet, IsWriterAsk, KeepsWriting, LeaveTurns, SentOn, TakesLeave, TookLeave, Wrote, WroteLink, WroteRound, round}
 use Rattle.agent_server.proofs.GoingLemmas.{went-none, went-on}
-
-wrong : true ≡ false → ⊥
-wrong e = cc
 
 -- ---- octets
 
@@ -66,7 +64,7 @@ sent-failed puts.Failed octets o p failed spoke =
     record {
       sent = take spoke.handed.count octets;
       handed = spoke.handed.adds;
-      all = λ is. absurd (wrong (sym is));
+      all = λ is. absurd (true≢false (sym is));
       part = λ is. (
         (drop spoke.handed.count octets, append-nil octets ∙ sym (take-append-drop spoke.handed.count octets)),
         omega (arith, rose),
@@ -87,7 +85,7 @@ sent-on whole xs ys o p q one two =
       );
       part = λ is. (
         subst (λ bs. StartsWith bs (one.sent ++ two.sent)) (sym (octets_in-append xs ys))
-            (starts-on (octets_in xs) (octets_in ys) one.sent two.sent true (λ _. sent_is) (λ e. absurd (wrong e))
+            (starts-on (octets_in xs) (octets_in ys) one.sent two.sent true (λ _. sent_is) (λ e. absurd (true≢false e))
             ([], sym sent_is ∙ sym (append-nil one.sent)) (two.part is).0),
         subst (λ n. Rose n q.faults) faults_are (two.part is).1,
       );
@@ -99,7 +97,7 @@ sent-part xs ys o p one =
     record {
       sent = one.sent;
       handed = one.handed;
-      all = λ is. absurd (wrong (sym is));
+      all = λ is. absurd (true≢false (sym is));
       part = λ is.
           let ((rest, is), rose) = one.part refl in (
             (rest ++ octets_in ys, octets_in-append xs ys ∙ ap (λ bs. bs ++ octets_in ys) is ∙ append_assoc one.sent rest (octets_in ys)),
@@ -150,12 +148,12 @@ round-asks : (before now : Bool) (heard told : Option Heard) → EachEntry IsWri
 round-asks before now heard told =
     round-entries IsWriters before now heard told (entry-alone IsWriters Drain heard (λ h. tt)) (λ h. tt)
 
-writer-ask : (ask : Input) (heard : Heard) → GoesOn ask heard → IsWriterAsk ask
+writer-ask : (ask : Input) (heard : Heard) → KeepsWriting ask heard → IsWriterAsk ask
 writer-ask Drain heard is = tt
 writer-ask Down heard is = tt
 writer-ask ask heard is = absurd is
 
-rounds-asks : (turns : List RunTurn) → EachEntry GoesOn turns → EachEntry IsWriters turns
+rounds-asks : (turns : List RunTurn) → EachEntry KeepsWriting turns → EachEntry IsWriters turns
 rounds-asks [] is = tt
 rounds-asks (None ∷ turns) is = rounds-asks turns is
 rounds-asks (Some entry ∷ turns) is = (writer-ask entry.0 entry.1 is.0, rounds-asks turns is.1)
@@ -175,7 +173,7 @@ round-same false heard told = refl
 -- a link that is sound was so before
 sound-before : (b c : Bool) → (b ≡ false → c ≡ false) → c ≡ true → b ≡ true
 sound-before true c falls is = refl
-sound-before false c falls is = absurd (wrong (sym is ∙ falls refl))
+sound-before false c falls is = absurd (true≢false (sym is ∙ falls refl))
 
 same-between : (a b c : Bool) → (a ≡ false → b ≡ false) → (b ≡ false → c ≡ false) → a ≡ c → (a ≡ b) × (b ≡ c)
 same-between true b c first second same =
@@ -236,7 +234,7 @@ wrote-none sound o =
       part = ([], refl);
       none = λ is. (refl, is);
       quiet = λ same. (refl, refl);
-      broke = λ was is. absurd (wrong (sym was ∙ is));
+      broke = λ was is. absurd (true≢false (sym was ∙ is));
     }
 
 -- a turn that hands nothing over and is no Down
@@ -250,7 +248,7 @@ wrote-turn turn sound o nothing no_down =
       part = (sends (turn ∷ []), refl);
       none = λ is. (refl, is);
       quiet = λ same. (no_down, refl);
-      broke = λ was is. absurd (wrong (sym was ∙ is));
+      broke = λ was is. absurd (true≢false (sym was ∙ is));
     }
 
 module _ {C : Type 0} where
@@ -276,11 +274,11 @@ module _ {C : Type 0} where
         wrote = record {
           sent = [];
           handed = Adds-none o.handed;
-          all = λ is. absurd (wrong (sym is));
+          all = λ is. absurd (true≢false (sym is));
           part = (sends (turn_of Drain (Some heard) ∷ []), refl);
           none = λ is. (refl, refl);
           quiet = λ same. (refl, refl);
-          broke = λ was is. absurd (wrong (sym was));
+          broke = λ was is. absurd (true≢false (sym was));
         };
         blank = λ is. refl;
       }
@@ -299,9 +297,9 @@ module _ {C : Type 0} where
           handed = sent.handed;
           all = λ is. whole;
           part = ([], sym whole ∙ sym (append-nil sent.sent));
-          none = λ is. absurd (wrong is);
+          none = λ is. absurd (true≢false is);
           quiet = λ same. (refl, faults_are);
-          broke = λ was is. absurd (wrong is);
+          broke = λ was is. absurd (true≢false is);
         };
         blank = λ is. refl;
       }
@@ -317,10 +315,10 @@ module _ {C : Type 0} where
         wrote = record {
           sent = sent.sent;
           handed = sent.handed;
-          all = λ is. absurd (wrong (sym is));
+          all = λ is. absurd (true≢false (sym is));
           part = (rest, down-sends told heard ∙ is);
-          none = λ is. absurd (wrong is);
-          quiet = λ same. absurd (wrong same);
+          none = λ is. absurd (true≢false is);
+          quiet = λ same. absurd (true≢false same);
           broke = λ was is. down-breaks told heard o p rose;
         };
         blank = λ is. cc;
@@ -372,20 +370,20 @@ module _ {C : Type 0} where
     pub mine : List RunTurn
     pub went : Went mine k k'
     pub wrote : Wrote mine true now o o'
-    pub went_on : EachEntry GoesOn mine
+    pub went_on : EachEntry KeepsWriting mine
 
   pub rounds-none : (k : Known (AgentDesk C) Input Heard) (o : Outlet) → Rounds true k k o o
   rounds-none k o = record { mine = []; went = went-none k; wrote = wrote-none true o; went_on = tt }
 
   pub rounds-on : (heard : Option Heard) (a b : Bool) (k l m : Known (AgentDesk C) Input Heard) (o p q : Outlet) → Rounds a k l o p
-      → WroteRound heard a b l m p q → EachEntry GoesOn (turn_of Drain heard ∷ []) → Rounds b k m o q
+      → WroteRound heard a b l m p q → EachEntry KeepsWriting (turn_of Drain heard ∷ []) → Rounds b k m o q
   rounds-on heard a b k l m o p q so_far one goes_on =
       record {
         mine = so_far.mine ++ round a b heard one.told;
         went = went-on so_far.mine (round a b heard one.told) k l m so_far.went one.went;
         wrote = wrote-on so_far.mine (round a b heard one.told) true a b o p q so_far.wrote one.wrote;
-        went_on = entries-append GoesOn so_far.mine (round a b heard one.told) so_far.went_on
-            (round-entries GoesOn a b heard one.told goes_on (λ h. tt));
+        went_on = entries-append KeepsWriting so_far.mine (round a b heard one.told) so_far.went_on
+            (round-entries KeepsWriting a b heard one.told goes_on (λ h. tt));
       }
 
   -- by the answer of the last round the link is closed

@@ -46,12 +46,12 @@ is_message (Message octets) = true
 is_message ask = false
 
 -- what the reader of a link asks
-abbrev pub MayAsk : Input → Type 0
-MayAsk (Message octets) = Unit {0}
-MayAsk (Broken fault) = Unit {0}
-MayAsk Tick = Unit {0}
-MayAsk Down = Unit {0}
-MayAsk ask = ⊥
+abbrev pub LinkMayAsk : Input → Type 0
+LinkMayAsk (Message octets) = Unit {0}
+LinkMayAsk (Broken fault) = Unit {0}
+LinkMayAsk Tick = Unit {0}
+LinkMayAsk Down = Unit {0}
+LinkMayAsk ask = ⊥
 
 -- ---- answers
 
@@ -73,19 +73,19 @@ entry_framed (Some entry) = framed_in entry.0
 abbrev pub framed : List RunTurn → List Input
 framed turns = flat_map entry_framed turns
 
-abbrev pub MayTake : RunTurn → Type 0
-MayTake None = Unit {0}
-MayTake (Some entry) = MayAsk entry.0
+abbrev pub LinkMayTake : RunTurn → Type 0
+LinkMayTake None = Unit {0}
+LinkMayTake (Some entry) = LinkMayAsk entry.0
 
 -- after this turn the reader goes on
-abbrev pub GoesOn : RunTurn → Type 0
-GoesOn None = Unit {0}
-GoesOn (Some entry) = is_last entry.1 ≡ false
+abbrev pub KeepsReading : RunTurn → Type 0
+KeepsReading None = Unit {0}
+KeepsReading (Some entry) = is_last entry.1 ≡ false
 
 -- the last turn is the first entry after whose answer the reader stops, and its ask has P
 pub record EndsAt (P : Input → Type 0) (turns : List RunTurn) : Type 0 where
   pub front : List RunTurn
-  pub goes : All GoesOn front
+  pub goes : All KeepsReading front
   pub ask : Input
   pub heard : Heard
   pub whole : turns ≡ front ++ Some (ask, heard) ∷ []
@@ -99,8 +99,8 @@ pub record AddsSome (before now : Option ℕ) (count : ℕ) : Type 0 where
   pub still : (n : ℕ) → now ≡ Some n → option_map (λ m. m + count) before ≡ Some n
 
 -- a receive ended or failed
-abbrev pub IsOver : Inlet → Type 0
-IsOver link = 0 < link.ends + link.faults
+abbrev pub HasEnded : Inlet → Type 0
+HasEnded link = 0 < link.ends + link.faults
 
 -- A reader took these turns and received these octets. It heeded these inputs of their stream: each was entered, but for so
 -- many that are lost, each with a blank turn. So many Ticks were asked because the framer found no memory, and each of
@@ -113,9 +113,9 @@ pub record Reads (mine : List RunTurn) (got : List ℕ) (heeded : List Input) (b
   pub blank : out ≤ blanks mine
   pub retried : retries ≤ ticks mine + blanks mine
   pub few_ticks : ticks mine ≤ looks + retries
-  pub down : 0 < downs mine → IsOver now
-  pub ended : IsOver now → (0 < downs mine) ⊎ (0 < blanks mine)
-  pub asks : All MayTake mine
+  pub down : 0 < downs mine → HasEnded now
+  pub ended : HasEnded now → (0 < downs mine) ⊎ (0 < blanks mine)
+  pub asks : All LinkMayTake mine
 
 -- The turns of a whole run: the stream of what was received was heeded. A rest may be left out where the last turn is a
 -- Message, or where the framer once found no memory.
@@ -196,7 +196,7 @@ module _ {C D : Type 0} (told : D → Socket) where
   -- The framer was fed all that was received but this piece. What it gave was heeded.
   pub record SoFar (piece : List ℕ) (start : Sight C) (visitor : Visitor C D) (link : Inlet) (framer : FramerParts) : Type 0 where
     pub mine : List RunTurn
-    pub goes : All GoesOn mine
+    pub goes : All KeepsReading mine
     pub got : List ℕ
     pub fed : List ℕ
     pub given : List (List ℕ)
@@ -207,7 +207,7 @@ module _ {C D : Type 0} (told : D → Socket) where
   -- the framer gave this next, and it isn't heeded yet
   pub record Gives (next : Next) (start : Sight C) (visitor : Visitor C D) (link : Inlet) (framer : FramerParts) : Type 0 where
     pub mine : List RunTurn
-    pub goes : All GoesOn mine
+    pub goes : All KeepsReading mine
     pub got : List ℕ
     pub given : List (List ℕ)
     pub is : next ≡ next_of framer
@@ -216,9 +216,9 @@ module _ {C D : Type 0} (told : D → Socket) where
     pub did : Did mine got (stream_inputs given framer.shown) start visitor link
 
   -- the whole stream of what was received was heeded
-  pub record Rests (start : Sight C) (visitor : Visitor C D) (link : Inlet) (framer : FramerParts) : Type 0 where
+  pub record HeededAll (start : Sight C) (visitor : Visitor C D) (link : Inlet) (framer : FramerParts) : Type 0 where
     pub mine : List RunTurn
-    pub goes : All GoesOn mine
+    pub goes : All KeepsReading mine
     pub got : List ℕ
     pub given : List (List ℕ)
     pub all : HoldsOnly got given framer.shown

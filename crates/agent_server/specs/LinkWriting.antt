@@ -34,10 +34,10 @@ IsWriterAsk Leave = Unit {0}
 IsWriterAsk ask = ⊥
 
 -- an entry after which a writer goes on: a Down, or a Drain by whose answer the link is open and the run isn't finished
-abbrev pub GoesOn : Input → Heard → Type 0
-GoesOn Drain heard = (heard.closed ≡ None) × (heard.finished ≡ false)
-GoesOn Down heard = Unit {0}
-GoesOn ask heard = ⊥
+abbrev pub KeepsWriting : Input → Heard → Type 0
+KeepsWriting Drain heard = (heard.closed ≡ None) × (heard.finished ≡ false)
+KeepsWriting Down heard = Unit {0}
+KeepsWriting ask heard = ⊥
 
 -- A round of the writer, by whether the link was sound before it and is now: a Drain, and where a send failed a Down. Each
 -- of the two may be blank.
@@ -113,7 +113,7 @@ pub record LastTurns (end : WriterEnd) (now : Bool) (mine : List RunTurn) : Type
   pub before : Bool
   pub after : Bool
   pub mine_is : mine ≡ rounds ++ (round before after (Some heard) told ++ rest)
-  pub went_on : EachEntry GoesOn rounds
+  pub went_on : EachEntry KeepsWriting rounds
   pub end_turns : EndTurns end heard after now rest
 
 -- what a writer did on a link that was sound at first

@@ -1,5 +1,5 @@
 -- How the writer goes from link to link.
-use Rattle.std.specs.Prelude.{◌≡◌, ◌≢◌, ℕ, ◌+◌, ◌-◌, ◌^◌, ◌<◌, ◌≤◌, ◌⊎◌, min, Bool, true, false, List, [], ◌∷◌, ◌++◌, length, All, Option, Some, None, Result, Ok, Err, vec_capacity, if◌then◌else◌}
+use Rattle.std.specs.Prelude.{◌≡◌, ℕ, ◌+◌, ◌-◌, ◌^◌, ◌<◌, ◌≤◌, ◌⊎◌, min, Bool, true, false, List, [], ◌∷◌, ◌++◌, length, All, Option, Some, None, vec_capacity, if◌then◌else◌}
 use Rattle.wire_core.specs.Counts.{Rose}
 use Rattle.radius_packet.specs.declared.reasons.Via.TheVariants.{Auth, Acct}
 use Rattle.peer_machine.specs.declared.LinkCause.{LinkCause}
@@ -8,7 +8,7 @@ use Rattle.wire_devices.specs.Links.{Inlet, Outlet, IsFreshInlet, IsFreshOutlet}
 use Rattle.wire_devices.specs.Sockets.{Socket}
 use Rattle.wire_devices.specs.Telling.{TellsOnly}
 use Rattle.agent_core.specs.declared.events.Input.{Input}
-use Rattle.agent_core.specs.declared.events.Input.TheVariants.{Up, Tick, Drain, Leave}
+use Rattle.agent_core.specs.declared.events.Input.TheVariants.{Up, Drain, Leave}
 use Rattle.atomic_table.specs.Seated.{TableId}
 use Rattle.turnstile.specs.declared.pass.PassOf.{PassOf}
 use Rattle.turnstile.specs.declared.view.Known.{Known}
@@ -33,10 +33,9 @@ use Rattle.agent_server.specs.declared.workers.Worker.{Worker}
 use Rattle.agent_server.specs.declared.workers.Worker.TheVariants as worker
 use Rattle.agent_server.specs.Entries.{EachEntry, EndsWith, RunTurn, is_final, octets_in, replies_by, ticks}
 use Rattle.agent_server.specs.Going.{Went}
-use Rattle.agent_server.specs.LinkReading.{ReadsLink, sight}
+use Rattle.agent_server.specs.LinkReading.{LinkMayTake, ReadsLink, sight}
 use Rattle.agent_server.specs.Runs.{is_leave}
 use Rattle.agent_server.specs.Serving.{AllBut, AreUnopened, IsTick, Spanned}
-use Rattle.agent_server.specs.LinkReading as reading
 use Rattle.agent_server.specs.Spans.{IsClosed, ServerTurn, is_beginning}
 
 -- ---- the writer's turns
@@ -97,11 +96,12 @@ TakesLeaveAlone {C} end k k' = (mine : List RunTurn) × Went mine k k' × LeftAl
 abbrev pub RoseBy : ℕ → ℕ → ℕ → Type 0
 RoseBy n before now = min (before + n) (2 ^ 64 - 1) ≤ now
 
--- More turns of the writer came, of which so many Ticks as the count of failed dials rose by.
+-- More turns of the writer came, of which so many Ticks as the count of failed dials rose by. It never fell.
 pub record Ticked (own own' : List RunTurn) (faults faults' : ℕ) : Type 0 where
   pub more : List RunTurn
   pub whole : own' ≡ own ++ more
   pub counted : RoseBy (ticks more) faults faults'
+  pub grows : faults ≤ faults'
 
 abbrev pub IsFinishedTick : RunTurn → Type 0
 IsFinishedTick None = ⊥
@@ -120,16 +120,53 @@ abbrev pub TookTick : Bool → RunTurn → Type 0
 TookTick finished None = finished ≡ false
 TookTick finished (Some entry) = IsTick entry.0 × (entry.1.finished ≡ finished)
 
+-- ---- how a link ends, and a run
+
+-- a Drain of the writer was told that the link is closed for this cause
+pub record ClosedFor (cause : LinkCause) (seg : List ServerTurn) : Type 0 where
+  pub heard : Heard
+  pub front : List ServerTurn
+  pub back : List ServerTurn
+  pub whole : seg ≡ front ++ (0, Some (Drain, heard)) ∷ back
+  pub closed : heard.closed ≡ Some cause
+
+-- why the writer went from the last of these links
+abbrev pub EndsLink : WriterEnd → List (List ServerTurn) → List ServerTurn → Type 0
+EndsLink (writer.Closed cause) segs seen = NoLeave (of 0 seen) × EndsWith (ClosedFor cause) segs × LastDrain (of 0 seen)
+EndsLink writer.Done segs seen = LeftAtEnd (of 0 seen)
+EndsLink writer.NoMemory segs seen = Unit {0}
+
+-- why no further link is made: `row` is the dialer's, and `refused` says that a start of the crew was
+abbrev pub EndsRun : RunEnd → ℕ → Type 0 → List (List ServerTurn) → List ServerTurn → Type 0
+EndsRun run.Closed row refused segs seen =
+    NoLeave (of 0 seen) × ((cause : LinkCause) × (is_final cause ≡ true) × EndsWith (ClosedFor cause) segs)
+EndsRun run.Left row refused segs seen = LeftAtEnd (of 0 seen)
+EndsRun run.Worn row refused segs seen =
+    (length segs ≡ 256) × ((cause : LinkCause) × (is_final cause ≡ false) × EndsWith (ClosedFor cause) segs)
+EndsRun run.LinkFault row refused segs seen = row ≡ 16
+EndsRun run.NoThread row refused segs seen = refused
+EndsRun run.NoMemory row refused segs seen = Unit {0}
+
+-- only where memory was wanting are links spare
+abbrev pub HasSpare : {A : Type 0} → RunEnd → List A → Type 0
+HasSpare {A} run.NoMemory spare = Unit {0}
+HasSpare {A} end spare = spare ≡ []
+
+-- ---- by what links tell
+
 module _ {I O : Type 0} (hears : I → Inlet) (speaks : O → Outlet) where
   abbrev pub DialsBy : Dialling I O → List RunTurn → Dials → Type 0
   DialsBy (dialling.Made link_in link_out) mine dials = (dials.row ≡ 0) × IsFreshInlet (hears link_in) × IsFreshOutlet (speaks link_out)
   DialsBy dialling.Finished mine dials = (0 < dials.row) × EndsWith IsFinishedTick mine
   DialsBy dialling.Failed mine dials = dials.row ≡ 16
 
-  -- a dialling: each dial that failed was followed by a Tick
+  -- A dialling: each dial that failed was followed by a Tick. The count of faults never fell, and it rose where more dials
+  -- in a row failed than before.
   pub record Dialled (end : Dialling I O) (mine : List RunTurn) (before now : Dials) : Type 0 where
     pub asks : EachEntry (λ ask heard. IsTick ask) mine
     pub faults : RoseBy (length mine) before.faults now.faults
+    pub grows : before.faults ≤ now.faults
+    pub failed : before.row < now.row → Rose before.faults now.faults
     pub ends : DialsBy end mine now
 
   -- ---- between links
@@ -148,19 +185,6 @@ module _ {I O : Type 0} (hears : I → Inlet) (speaks : O → Outlet) where
     pub opened : Heard
     pub whole : seen ≡ before ++ (0, Some (Up, opened)) ∷ []
 
-  -- a Drain of the writer was told that the link is closed for this cause
-  pub record ClosedFor (cause : LinkCause) (seg : List ServerTurn) : Type 0 where
-    pub heard : Heard
-    pub front : List ServerTurn
-    pub back : List ServerTurn
-    pub whole : seg ≡ front ++ (0, Some (Drain, heard)) ∷ back
-    pub closed : heard.closed ≡ Some cause
-
-  abbrev pub EndsLink : WriterEnd → List (List ServerTurn) → List ServerTurn → Type 0
-  EndsLink (writer.Closed cause) segs seen = NoLeave (of 0 seen) × EndsWith (ClosedFor cause) segs × LastDrain (of 0 seen)
-  EndsLink writer.Done segs seen = LeftAtEnd (of 0 seen)
-  EndsLink writer.NoMemory segs seen = Unit {0}
-
   -- the last of these links is over, from which the writer went so
   pub record LinkOver (end : WriterEnd) (pairs : List (Pair I O)) (seen : List ServerTurn) (out retries : ℕ) : Type 0 where
     pub segs : List (List ServerTurn)
@@ -170,21 +194,6 @@ module _ {I O : Type 0} (hears : I → Inlet) (speaks : O → Outlet) where
     pub ends : EndsLink end segs seen
 
   -- ---- the end
-
-  -- why no further link is made: `row` is the dialer's, and `refused` says that a start of the crew was
-  abbrev pub EndsRun : RunEnd → ℕ → Type 0 → List (List ServerTurn) → List ServerTurn → Type 0
-  EndsRun run.Closed row refused segs seen =
-      NoLeave (of 0 seen) × ((cause : LinkCause) × (is_final cause ≡ true) × EndsWith (ClosedFor cause) segs)
-  EndsRun run.Left row refused segs seen = LeftAtEnd (of 0 seen)
-  EndsRun run.Worn row refused segs seen =
-      (length segs ≡ 256) × ((cause : LinkCause) × (is_final cause ≡ false) × EndsWith (ClosedFor cause) segs)
-  EndsRun run.LinkFault row refused segs seen = row ≡ 16
-  EndsRun run.NoThread row refused segs seen = refused
-  EndsRun run.NoMemory row refused segs seen = Unit {0}
-
-  abbrev pub HasSpare : RunEnd → List (Pair I O) → Type 0
-  HasSpare run.NoMemory spare = Unit {0}
-  HasSpare end spare = spare ≡ []
 
   -- all links are over
   pub record RunOver (end : RunEnd) (row : ℕ) (refused : Type 0) (pairs : List (Pair I O)) (seen : List ServerTurn) (out retries : ℕ) : Type 0 where
@@ -254,14 +263,15 @@ module _ {I O : Type 0} (hears : I → Inlet) (speaks : O → Outlet) where
       pub opened : Opened past.pairs.items k.seen out retries
       pub tally : Tally told past twins.auth twins.acct k.seen out retries
 
-    -- no further link is made; `dials` are the dialer's counts before and now
+    -- no further link is made; the dialer's counts are those before and now
     pub record Ends (end : RunEnd) (before now : Dials) (refused : Type 0) (k k' : Known (AgentDesk C) Input Heard) (twins : Twins D) (past : Past I O) : Type 0 where
       pub first : k'.first ≡ k.first
       pub numbers : k'.numbers ≡ 0 ∷ 3 ∷ []
       pub ticked : Ticked (of 0 k.seen) (of 0 k'.seen) before.faults now.faults
+      pub failed : now.row ≡ 16 → Rose before.faults now.faults
       pub out : ℕ
       pub retries : ℕ
-      pub reads : All reading.MayTake (of 3 k'.seen)
+      pub reads : All LinkMayTake (of 3 k'.seen)
       pub over : LateDrainsAreEmpty (of 0 k'.seen) → RunOver end now.row refused past.pairs.items k'.seen out retries
       pub tally : Tally told past twins.auth twins.acct k'.seen out retries
 
@@ -274,24 +284,26 @@ module _ {I O : Type 0} (hears : I → Inlet) (speaks : O → Outlet) where
       pub started : StartedAs turnstile k' live.helper live.link_out past
 
     -- what comes after a link, where the crew's count of refused starts was `starts` and is `starts'`
-    abbrev pub GoesOn : Next C D I O → TableId → Dials → Dials → ℕ → ℕ → Known (AgentDesk C) Input Heard → Known (AgentDesk C) Input Heard → Past I O → Type 0
-    GoesOn (next.Go live) turnstile before now starts starts' k k' past = Goes turnstile before now (starts' ≡ starts) k k' live past
-    GoesOn (next.Stop end twins) turnstile before now starts starts' k k' past = Ends end before now (Rose starts starts') k k' twins past
+    abbrev pub ComesNext : Next C D I O → TableId → Dials → Dials → ℕ → ℕ → Known (AgentDesk C) Input Heard → Known (AgentDesk C) Input Heard → Past I O → Type 0
+    ComesNext (next.Go live) turnstile before now starts starts' k k' past = Goes turnstile before now (starts' ≡ starts) k k' live past
+    ComesNext (next.Stop end twins) turnstile before now starts starts' k k' past = Ends end before now (Rose starts starts') k k' twins past
 
 -- ---- the reader of a link, back
 
-module _ {C D I : Type 0} (told : D → Socket) (hears : I → Inlet) where
-  abbrev pub IsLinkWorker : Worker C D I → Type 0
-  IsLinkWorker (worker.Link alloc shared pass link auth acct) = Unit {0}
-  IsLinkWorker (worker.Reader alloc shared pass via socket) = ⊥
+abbrev pub IsLinkWorker : {C D I : Type 0} → Worker C D I → Type 0
+IsLinkWorker {C} {D} {I} (worker.Link alloc shared pass link auth acct) = Unit {0}
+IsLinkWorker {C} {D} {I} (worker.Reader alloc shared pass via socket) = ⊥
 
-  -- it ran, or was never started
-  abbrev pub IsBack : Result (Worker C D I) (Worker C D I) → ReaderBack C D I → Type 0
-  IsBack (Ok (worker.Link alloc shared pass link auth acct)) back =
-      (table_of back.pass ≡ table_of pass)
-      × ReadsLink (sight (known pass) (hears link) (told auth) (told acct))
-      (sight (known back.pass) (hears back.link_in) (told back.twins.auth) (told back.twins.acct)) back.lost back.again
-  IsBack (Err (worker.Link alloc shared pass link auth acct)) back =
-      back ≡ record { pass = pass; link_in = link; twins = record { auth = auth; acct = acct }; lost = 0; again = 0 }
-  IsBack (Ok (worker.Reader alloc shared pass via socket)) back = ⊥
-  IsBack (Err (worker.Reader alloc shared pass via socket)) back = ⊥
+-- it was never started
+abbrev pub ReaderNeverRan : {C D I : Type 0} → Worker C D I → ReaderBack C D I → Type 0
+ReaderNeverRan {C} {D} {I} (worker.Link alloc shared pass link auth acct) back =
+    back ≡ record { pass = pass; link_in = link; twins = record { auth = auth; acct = acct }; lost = 0; again = 0 }
+ReaderNeverRan {C} {D} {I} (worker.Reader alloc shared pass via socket) back = ⊥
+
+-- it ran
+abbrev pub ReaderRan : {C D I : Type 0} → (D → Socket) → (I → Inlet) → Worker C D I → ReaderBack C D I → Type 0
+ReaderRan {C} {D} {I} told hears (worker.Link alloc shared pass link auth acct) back =
+    (table_of back.pass ≡ table_of pass)
+    × ReadsLink (sight (known pass) (hears link) (told auth) (told acct))
+    (sight (known back.pass) (hears back.link_in) (told back.twins.auth) (told back.twins.acct)) back.lost back.again
+ReaderRan {C} {D} {I} told hears (worker.Reader alloc shared pass via socket) back = ⊥

@@ -1,7 +1,6 @@
--- What a run of the server was: all its turns, and what its devices tell ([Threads]).
-use Rattle.std.specs.Prelude.{◌≡◌, ◌≢◌, ℕ, zero, suc, ◌+◌, ◌-◌, ◌^◌, ◌<◌, ◌≤◌, ◌⊎◌, min, nat_le, Bool, true, false, if◌then◌else◌, not, List, [], ◌∷◌, ◌++◌, length, filter, All, Option, Some, None}
+-- What a run of the server was: all its turns, and what its devices tell.
+use Rattle.std.specs.Prelude.{◌≡◌, ◌≢◌, ℕ, zero, suc, ◌+◌, ◌-◌, ◌^◌, ◌<◌, ◌≤◌, ◌⊎◌, min, nat_le, Bool, true, if◌then◌else◌, not, List, [], ◌∷◌, ◌++◌, length, filter, All, Option, Some, None}
 use Rattle.wire_core.specs.Counts.{Rose}
-use Rattle.radius_packet.specs.declared.reasons.Via.{Via}
 use Rattle.radius_packet.specs.declared.reasons.Via.TheVariants.{Auth, Acct}
 use Rattle.agent_config.specs.declared.config.Config.{Config}
 use Rattle.peer_machine.specs.declared.LinkCause.{LinkCause}
@@ -22,11 +21,11 @@ use Rattle.agent_server.specs.declared.trail.Pair.{Pair}
 use Rattle.agent_server.specs.declared.trail.Trail.{Trail}
 use Rattle.agent_server.specs.Desks.{HasRead}
 use Rattle.agent_server.specs.Entries.{RunTurn, is_final, replies_by, ticks}
-use Rattle.agent_server.specs.LinkReading as link
+use Rattle.agent_server.specs.LinkReading.{LinkMayTake}
 use Rattle.agent_server.specs.Running.{LeftAtEnd, RoseBy}
 use Rattle.agent_server.specs.Runs.{IsRun, history, places_of}
 use Rattle.agent_server.specs.Serving.{AreUnopened, IsUp, MayWrite, Spanned}
-use Rattle.agent_server.specs.SocketReading as socket
+use Rattle.agent_server.specs.SocketReading.{ServedSocket, SocketMayTake}
 use Rattle.agent_server.specs.Spans.{AreSpans, ServerTurn, SpansFit, closings}
 
 -- ---- who asks what
@@ -39,9 +38,9 @@ MayWriteTurn (Some entry) = MayWrite entry.0 ⊎ IsUp entry.0
 -- are so many, and 3 is that of the readers of links.
 abbrev pub MayTurn : ℕ → ℕ → ℕ → RunTurn → Type 0
 MayTurn auth acct zero turn = MayWriteTurn turn
-MayTurn auth acct (suc zero) turn = socket.MayTake Auth auth turn
-MayTurn auth acct (suc (suc zero)) turn = socket.MayTake Acct acct turn
-MayTurn auth acct (suc (suc (suc zero))) turn = link.MayTake turn
+MayTurn auth acct (suc zero) turn = SocketMayTake Auth auth turn
+MayTurn auth acct (suc (suc zero)) turn = SocketMayTake Acct acct turn
+MayTurn auth acct (suc (suc (suc zero))) turn = LinkMayTake turn
 MayTurn auth acct (suc (suc (suc (suc n)))) turn = ⊥
 
 -- ---- when the agent takes its leave
@@ -132,7 +131,7 @@ module _ {I O : Type 0} (hears : I → Inlet) (speaks : O → Outlet) where
 
 module _ {C D I O : Type 0} (readings : C → Option (List ℕ)) (told : D → Socket) (hears : I → Inlet) (speaks : O → Outlet) where
   -- What a run was whose workers were started: of these settings up to the moment `until`, over a clock that had told these
-  -- readings before.
+  -- readings before. Where 16 receives of a socket or 16 dials in a row failed, the count of its faults rose.
   pub record Served (config : Config) (until : ℕ) (before : List ℕ) (auth acct auth' acct' : Socket) (dials dials' : Dials) (refused : Type 0)
       (clock : C) (trail : Trail C D I O) (status : Status) : Type 0 where
     pub run : IsRun config until (plain trail.turns)
@@ -144,14 +143,17 @@ module _ {C D I O : Type 0} (readings : C → Option (List ℕ)) (told : D → S
     pub acct_out : ℕ
     pub out : ℕ
     pub retries : ℕ
-    pub auth_served : socket.ServedSocket Auth (of 1 trail.turns) auth auth' auth_out
-    pub acct_served : socket.ServedSocket Acct (of 2 trail.turns) acct acct' acct_out
+    pub auth_served : ServedSocket Auth (of 1 trail.turns) auth auth' auth_out
+    pub acct_served : ServedSocket Acct (of 2 trail.turns) acct acct' acct_out
     pub linked : Linked hears speaks config trail.links trail.turns status out retries
     pub auth_replies : TellsOnly (told trail.auth_twin).handed (replies_by Auth (of 3 trail.turns))
     pub acct_replies : TellsOnly (told trail.acct_twin).handed (replies_by Acct (of 3 trail.turns))
     pub lost : trail.lost ≡ min (out + auth_out + acct_out) (2 ^ 64 - 1)
     pub again : trail.again ≡ min retries (2 ^ 64 - 1)
     pub dialled : RoseBy (ticks (of 0 trail.turns)) dials.faults dials'.faults
+    pub auth_failed : auth'.row ≡ 16 → Rose auth.faults auth'.faults
+    pub acct_failed : acct'.row ≡ 16 → Rose acct.faults acct'.faults
+    pub dials_failed : dials'.row ≡ 16 → Rose dials.faults dials'.faults
     pub because : Because status (of 0 trail.turns) (plain trail.turns) (closings (places_of config (plain trail.turns))) auth'.row acct'.row dials'.row refused
     pub given : IsGiven status (closings (places_of config (plain trail.turns))) auth'.row acct'.row
     pub leaves : 3 < rank status → ((cause : LinkCause) → ¬ AreWorn (closings (places_of config (plain trail.turns))) cause)
@@ -161,10 +163,11 @@ module _ {C D I O : Type 0} (readings : C → Option (List ℕ)) (told : D → S
 abbrev pub HasPassed : Option (List ℕ) → ℕ → Type 0
 HasPassed told until = (all : List ℕ) → told ≡ Some all → (reading : ℕ) × Holds all reading × (until ≤ reading)
 
--- why a run ended before its workers were started
-abbrev pub EndsEarly : Status → Option (List ℕ) → ℕ → Dials → Type 0 → Type 0 → Type 0
-EndsEarly OutOfMemory told until dials twin start = Unit {0}
-EndsEarly LinkFault told until dials twin start = (dials.row ≡ 16) ⊎ ((0 < dials.row) × HasPassed told until)
-EndsEarly DatagramFault told until dials twin start = twin
-EndsEarly NoThread told until dials twin start = start
-EndsEarly status told until dials twin start = ⊥
+-- Why a run ended before its workers were started: by the clock, the dialer's counts before and after, and whether a twin
+-- of a socket or a start of a thread was refused.
+abbrev pub EndsEarly : Status → Option (List ℕ) → ℕ → Dials → Dials → Type 0 → Type 0 → Type 0
+EndsEarly OutOfMemory told until dials dials' twin start = Unit {0}
+EndsEarly LinkFault told until dials dials' twin start = Rose dials.faults dials'.faults × ((dials'.row ≡ 16) ⊎ ((0 < dials'.row) × HasPassed told until))
+EndsEarly DatagramFault told until dials dials' twin start = twin
+EndsEarly NoThread told until dials dials' twin start = start
+EndsEarly status told until dials dials' twin start = ⊥

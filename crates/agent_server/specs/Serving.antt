@@ -1,24 +1,16 @@
 -- What the server did: by all turns, and by what its devices tell. Passes have the numbers 0 of the writer, 1 and 2 of the
 -- readers of the sockets, and 3 of the readers of links.
-use Rattle.std.specs.Prelude.{◌≡◌, ◌≢◌, ℕ, zero, suc, ◌+◌, ◌-◌, ◌^◌, ◌<◌, ◌≤◌, ◌⊎◌, min, Bool, true, false, List, [], ◌∷◌, ◌++◌, length, All, Option, Some, None}
-use Rattle.radius_packet.specs.declared.reasons.Via.{Via}
-use Rattle.radius_packet.specs.declared.reasons.Via.TheVariants.{Auth, Acct}
-use Rattle.peer_machine.specs.declared.LinkCause.{LinkCause}
-use Rattle.wire_devices.specs.declared.devices.Datagram.{Datagram}
+use Rattle.std.specs.Prelude.{◌≡◌, ℕ, ◌+◌, ◌⊎◌, Bool, true, false, List, [], ◌∷◌, ◌++◌, Some, None}
 use Rattle.wire_devices.specs.Links.{Inlet, Outlet, IsFreshInlet, IsFreshOutlet}
-use Rattle.wire_devices.specs.Sockets.{Socket}
-use Rattle.wire_devices.specs.Telling.{TellsOnly}
 use Rattle.agent_core.specs.declared.events.Input.{Input}
 use Rattle.agent_core.specs.declared.events.Input.TheVariants.{Up, Down, Tick, Drain, Leave}
 use Rattle.turnstile.specs.Turns.{of}
 use Rattle.agent_server.specs.declared.heard.Heard.{Heard}
 use Rattle.agent_server.specs.declared.trail.Pair.{Pair}
-use Rattle.agent_server.specs.Entries.{EachEntry, RunTurn, is_final, is_tick, replies_by}
+use Rattle.agent_server.specs.Entries.{EachEntry, RunTurn}
 use Rattle.agent_server.specs.LinkReading.{ServedLink}
-use Rattle.agent_server.specs.LinkReading as reading
 use Rattle.agent_server.specs.LinkWriting.{Wrote}
-use Rattle.agent_server.specs.SocketReading as socket
-use Rattle.agent_server.specs.Spans.{IsClosed, ServerTurn, flat}
+use Rattle.agent_server.specs.Spans.{ServerTurn, flat}
 
 -- ---- who asks what
 

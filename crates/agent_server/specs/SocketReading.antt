@@ -1,5 +1,6 @@
 -- What the reader of a socket did: by the turns that it took itself, and by what its socket received and was handed.
 use Rattle.std.specs.Prelude.{◌≡◌, ℕ, ◌+◌, ◌-◌, ◌^◌, ◌<◌, ◌≤◌, ◌==◌, ◌⊎◌, min, Bool, true, false, ◌||◌, List, [], ◌∷◌, flat_map, All, Option, Some, None, MatchBool}
+use Rattle.wire_core.specs.Counts.{Rose}
 use Rattle.radius_packet.specs.declared.reasons.Via.{Via}
 use Rattle.peer_machine.specs.declared.LinkCause.{LinkCause}
 use Rattle.agent_core.specs.declared.events.Input.{Input}
@@ -34,15 +35,15 @@ abbrev pub datagrams : List RunTurn → List Datagram
 datagrams turns = flat_map entry_datagram turns
 
 -- What a reader asks: datagrams of its own port, Ticks, and where its receives failed 16 times in a row, a Leave.
-abbrev pub MayAsk : Via → ℕ → Input → Type 0
-MayAsk via row (inputs.Datagram port_via address port octets) = port_via ≡ via
-MayAsk via row inputs.Tick = Unit {0}
-MayAsk via row inputs.Leave = row ≡ 16
-MayAsk via row ask = ⊥
+abbrev pub SocketMayAsk : Via → ℕ → Input → Type 0
+SocketMayAsk via row (inputs.Datagram port_via address port octets) = port_via ≡ via
+SocketMayAsk via row inputs.Tick = Unit {0}
+SocketMayAsk via row inputs.Leave = row ≡ 16
+SocketMayAsk via row ask = ⊥
 
-abbrev pub MayTake : Via → ℕ → RunTurn → Type 0
-MayTake via row None = Unit {0}
-MayTake via row (Some entry) = MayAsk via row entry.0
+abbrev pub SocketMayTake : Via → ℕ → RunTurn → Type 0
+SocketMayTake via row None = Unit {0}
+SocketMayTake via row (Some entry) = SocketMayAsk via row entry.0
 
 -- the link is closed, and won't be made again
 abbrev pub is_closed_for_good : Option LinkCause → Bool
@@ -69,27 +70,31 @@ pub record Hands (before now : Socket) (sent : List Datagram) : Type 0 where
   pub received : now.received ≡ before.received
   pub idle : now.idle ≡ before.idle
   pub row : now.row ≡ before.row
+  pub grows : before.faults ≤ now.faults
 
 -- ---- a reader
 
 -- A reader of the socket of this port took these turns: each datagram that was received was entered, but for so many that
--- are lost, and what came of an entry was handed to the socket.
+-- are lost, and what came of an entry was handed to the socket. The count of faults never fell, and it rose where more
+-- receives in a row failed than before.
 pub record Reads (via : Via) (mine : List RunTurn) (s t : Socket) (out : ℕ) : Type 0 where
   pub got : List Datagram
   pub received : Adds s.received t.received got
   pub entered : Less got (datagrams mine) out
   pub handed : Adds s.handed t.handed (replies mine)
   pub idle : AddsAtLeast s.idle t.idle (ticks mine)
-  pub asks : All (MayTake via t.row) mine
+  pub asks : All (SocketMayTake via t.row) mine
+  pub grows : s.faults ≤ t.faults
+  pub failed : s.row < t.row → Rose s.faults t.faults
 
 -- 16 receives in a row failed, or the last turn is an entry after whose answer a reader stops
-abbrev pub IsOver : ℕ → List RunTurn → Type 0
-IsOver row mine = (row ≡ 16) ⊎ EndsWith IsLast mine
+abbrev pub StopsReading : ℕ → List RunTurn → Type 0
+StopsReading row mine = (row ≡ 16) ⊎ EndsWith IsLast mine
 
 -- the turns of a whole run
 pub record ServedSocket (via : Via) (mine : List RunTurn) (s t : Socket) (out : ℕ) : Type 0 where
   pub reads : Reads via mine s t out
-  pub last : IsOver t.row mine
+  pub last : StopsReading t.row mine
 
 -- ---- with the pass, and what is counted
 
@@ -101,7 +106,7 @@ pub record ReadsOnce {C : Type 0} (via : Via) (k l : Known (AgentDesk C) Input H
   pub reads : Reads via mine s t out
   pub counted : now.lost ≡ min (before.lost + out) (2 ^ 64 - 1)
   pub row : now.row ≡ t.row
-  pub last : MatchBool over (IsOver t.row mine) (t.row < 16)
+  pub last : MatchBool over (StopsReading t.row mine) (t.row < 16)
 
 -- a whole run of a reader, how many datagrams it lost, and whether it ended since 16 receives in a row failed
 pub record ReadsSocket {C : Type 0} (via : Via) (k l : Known (AgentDesk C) Input Heard) (s t : Socket) (lost : ℕ) (failed : Bool) : Type 0 where

@@ -1,6 +1,6 @@
 -- How a run falls into the spans of its links: each begins with the Up of the link's writer, and lasts up to the next such
 -- Up or to the end.
-use Rattle.std.specs.Prelude.{◌≡◌, ℕ, ◌+◌, Bool, true, false, List, [], ◌∷◌, ◌++◌, length, flat_map, option_to_list, All, Option, Some, None, if◌then◌else◌}
+use Rattle.std.specs.Prelude.{◌≡◌, ℕ, ◌+◌, Bool, true, false, List, [], ◌∷◌, ◌++◌, length, flat_map, option_to_list, All, Some, if◌then◌else◌}
 use Rattle.agent_config.specs.declared.config.Config.{Config}
 use Rattle.peer_machine.specs.declared.LinkCause.{LinkCause}
 use Rattle.agent_core.specs.declared.events.Input.{Input}

@@ -12,6 +12,7 @@ use Rattle.wire_devices.specs.Links.{Inlet, Outlet, IsFreshInlet, IsFreshOutlet}
 use Rattle.wire_devices.specs.Sockets.{Socket, Twinned, IsFreshSocket}
 use Rattle.agent_core.specs.declared.events.Input.{Input}
 use Rattle.atomic_table.specs.Seated.{TableId}
+use Rattle.turnstile.specs.declared.pass.PassOf.{PassOf}
 use Rattle.turnstile.specs.declared.view.Known.{Known}
 use Rattle.turnstile.specs.Knowing.{Carries}
 use Rattle.turnstile.specs.Passes.{known, table_of}
@@ -23,6 +24,7 @@ use Rattle.agent_server.specs.declared.running.Past.{Past}
 use Rattle.agent_server.specs.declared.running.RunEnd.{RunEnd}
 use Rattle.agent_server.specs.declared.running.Twins.{Twins}
 use Rattle.agent_server.specs.declared.server.FirstLink.{FirstLink}
+use Rattle.agent_server.specs.declared.server.Shares.{Shares}
 use Rattle.agent_server.specs.declared.server.SocketBack.{SocketBack}
 use Rattle.agent_server.specs.declared.server.Stand.{Stand}
 use Rattle.agent_server.specs.declared.workers.Worker.{Worker}
@@ -37,16 +39,21 @@ use Rattle.agent_server.specs.Spans.{ServerTurn}
 
 -- ---- before the first link
 
--- the shares are of the turnstile, its one pass has seen nothing, and there is room for the links
+pub record AreShares {C : Type 0} (turnstile : TableId) (shares : Shares C) : Type 0 where
+  pub auth : arc_value shares.auth ≡ turnstile
+  pub acct : arc_value shares.acct ≡ turnstile
+  pub link : arc_value shares.link ≡ turnstile
+
+-- The shares are of the turnstile, its one pass has seen nothing, and there is room for the links, of which none is over.
 pub record IsReady {C I O : Type 0} (stand : Stand C I O) : Type 0 where
   pub table : table_of stand.pass ≡ arc_value stand.turnstile
-  pub auth : arc_value stand.auth_share ≡ arc_value stand.turnstile
-  pub acct : arc_value stand.acct_share ≡ arc_value stand.turnstile
-  pub link : arc_value stand.link_share ≡ arc_value stand.turnstile
+  pub shares : AreShares (arc_value stand.turnstile) stand.shares
   pub numbers : (known stand.pass).numbers ≡ 0 ∷ 1 ∷ 2 ∷ 3 ∷ []
   pub seen : (known stand.pass).seen ≡ []
-  pub pairs : stand.pairs.items ≡ []
-  pub room : 256 ≤ vec_capacity stand.pairs
+  pub pairs : stand.past.pairs.items ≡ []
+  pub lost : stand.past.lost ≡ 0
+  pub again : stand.past.again ≡ 0
+  pub room : 256 ≤ vec_capacity stand.past.pairs
 
 -- what a turnstile was whose clock is left: its turns were a run, which the clock has read
 pub record IsRead {C : Type 0} (readings : C → Option (List ℕ)) (clock : C) (base : RunBase) (seen : List ServerTurn) : Type 0 where
@@ -80,14 +87,15 @@ module _ {I O : Type 0} (hears : I → Inlet) (speaks : O → Outlet) where
     pub alone : IsAlone seen
     pub opened : Opened hears speaks [] seen 0 0
     pub dialled : RoseBy (ticks (of 0 seen)) before.faults now.faults
+    pub grows : before.faults ≤ now.faults
     pub row : now.row ≡ 0
 
--- why no link was opened, or no twin made of a socket
-abbrev pub FirstFails : Status → List ServerTurn → Dials → Type 0 → Type 0
-FirstFails OutOfMemory seen dials twin = Unit {0}
-FirstFails LinkFault seen dials twin = (dials.row ≡ 16) ⊎ ((0 < dials.row) × FinishedAlone seen)
-FirstFails DatagramFault seen dials twin = twin
-FirstFails status seen dials twin = ⊥
+-- why no link was opened, or no twin made of a socket, by the dialer's counts before and now
+abbrev pub FirstFails : Status → List ServerTurn → Dials → Dials → Type 0 → Type 0
+FirstFails OutOfMemory seen before now twin = Unit {0}
+FirstFails LinkFault seen before now twin = Rose before.faults now.faults × ((now.row ≡ 16) ⊎ ((0 < now.row) × FinishedAlone seen))
+FirstFails DatagramFault seen before now twin = twin
+FirstFails status seen before now twin = ⊥
 
 -- ---- workers
 
@@ -95,7 +103,27 @@ FirstFails status seen dials twin = ⊥
 abbrev pub IsAt : {C : Type 0} → TableId → ℕ → TableId → Known (AgentDesk C) Input Heard → Type 0
 IsAt turnstile number table k = (table ≡ turnstile) × (k.numbers ≡ number ∷ [])
 
+-- a share of this turnstile, and a pass with this number that has seen what the writer has
+pub record IsPlace {C : Type 0} (turnstile : TableId) (number : ℕ) (k : Known (AgentDesk C) Input Heard) (share : TableId)
+    (pass : PassOf (AgentDesk C) Input Heard) : Type 0 where
+  pub shared : share ≡ turnstile
+  pub table : table_of pass ≡ turnstile
+  pub numbers : (known pass).numbers ≡ number ∷ []
+  pub seen : (known pass).seen ≡ k.seen
+  pub first : (known pass).first ≡ k.first
+
 module _ {C D I : Type 0} where
+  -- the reader of this socket, and of this link with the twins, at its place
+  abbrev pub IsReaderOf : TableId → ℕ → Via → Known (AgentDesk C) Input Heard → D → Worker C D I → Type 0
+  IsReaderOf turnstile number via k device (worker.Reader alloc shared pass port socket) =
+      IsPlace turnstile number k (arc_value shared) pass × (port ≡ via) × (socket ≡ device)
+  IsReaderOf turnstile number via k device (worker.Link alloc shared pass link auth acct) = ⊥
+
+  abbrev pub IsLinkReaderOf : TableId → ℕ → Known (AgentDesk C) Input Heard → I → Twins D → Worker C D I → Type 0
+  IsLinkReaderOf turnstile number k inlet twins (worker.Link alloc shared pass link auth acct) =
+      IsPlace turnstile number k (arc_value shared) pass × (link ≡ inlet) × (auth ≡ twins.auth) × (acct ≡ twins.acct)
+  IsLinkReaderOf turnstile number k inlet twins (worker.Reader alloc shared pass via socket) = ⊥
+
   abbrev pub IsReader : TableId → ℕ → Worker C D I → Type 0
   IsReader turnstile number (worker.Reader alloc shared pass via socket) = IsAt turnstile number (table_of pass) (known pass)
   IsReader turnstile number (worker.Link alloc shared pass link auth acct) = ⊥
@@ -113,14 +141,15 @@ module _ {C D I : Type 0} where
   IsStart handed (Ok started) = started ≡ handed
   IsStart handed (Err back) = back ≡ handed
 
-module _ {C D : Type 0} (told : D → Socket) where
-  -- a reader was made of a socket of this port, under this number, when so much was seen
-  pub record ReadsFor (via : Via) (number : ℕ) (k begin : Known (AgentDesk C) Input Heard) (before made : Socket) : Type 0 where
-    pub numbers : begin.numbers ≡ number ∷ []
-    pub seen : begin.seen ≡ k.seen
-    pub none : of number k.seen ≡ []
-    pub alike : Alike before made
+-- A reader was made of a socket of this port, under this number, when so much was seen. No receive had failed just before.
+pub record ReadsFor {C : Type 0} (via : Via) (number : ℕ) (k begin : Known (AgentDesk C) Input Heard) (before made : Socket) : Type 0 where
+  pub numbers : begin.numbers ≡ number ∷ []
+  pub seen : begin.seen ≡ k.seen
+  pub none : of number k.seen ≡ []
+  pub alike : Alike before made
+  pub row : before.row ≡ 0
 
+module _ {C D : Type 0} (told : D → Socket) where
   -- its worker
   abbrev pub StartsFor : {I : Type 0} → Via → ℕ → Known (AgentDesk C) Input Heard → Socket → Worker C D I → Type 0
   StartsFor {I} via number k before (worker.Reader alloc shared pass port socket) = (port ≡ via) × ReadsFor via number k (known pass) before (told socket)
@@ -152,6 +181,7 @@ pub record AllDone {C D I O : Type 0} (readings : C → Option (List ℕ)) (told
     (auth_back acct_back : SocketBack C D) : Type 0 where
   pub carries : Carries (StandsBy readings) k base
   pub dialled : RoseBy (ticks (of 0 k.seen)) dials.faults dials'.faults
+  pub grows : dials.faults ≤ dials'.faults
   pub ends : Ends hears speaks told end dials' dials'' (Rose starts starts') k k' twins past
   pub auth_done : SocketDone told Auth 1 k auth auth_back
   pub acct_done : SocketDone told Acct 2 k acct acct_back

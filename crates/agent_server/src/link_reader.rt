@@ -7,7 +7,7 @@ ghost use Rattle.turnstile.specs.Passes.{known, table_of};
 ghost use Rattle.wire_devices.specs.Links.{Inlet};
 ghost use Rattle.wire_devices.specs.Telling.{Adds};
 ghost use Rattle.agent_server.specs.Entries.{reply_by};
-ghost use Rattle.agent_server.specs.LinkReading.{Gives, ReadsLink, Rests, Sight, SoFar, Stops, Visits, is_framed as framed_test, is_last as last_test, sight};
+ghost use Rattle.agent_server.specs.LinkReading.{Gives, HeededAll, ReadsLink, Sight, SoFar, Stops, Visits, is_framed as framed_test, is_last as last_test, sight};
 
 use crate::desk::AgentDesk;
 use crate::heard::Heard;
@@ -203,7 +203,7 @@ fn take_messages<R: Wait, C: Clock, D: Datagrams>(
     ensures broken { frames.new.broken ≡ is_some frames.new.framer.shown }
     ensures reads { (start : Sight C) (link : Inlet)
         → SoFar D.told [] start visitor.old link frames.old.framer
-        → MatchBool result (Stops D.told start visitor.new link frames.new.framer) (Rests D.told start visitor.new link frames.new.framer) }
+        → MatchBool result (Stops D.told start visitor.new link frames.new.framer) (HeededAll D.told start visitor.new link frames.new.framer) }
 {
     for _ in rt.forever() {
         match next_of_stream(rt, turnstile, visitor, &mut frames.framer) {
@@ -240,7 +240,7 @@ fn take_piece<R: Wait, C: Clock, D: Datagrams>(
     ensures broken { frames.new.broken ≡ is_some frames.new.framer.shown }
     ensures reads { (start : Sight C) (link : Inlet)
         → SoFar D.told piece.now start visitor.old link frames.old.framer
-        → MatchBool result (Stops D.told start visitor.new link frames.new.framer) (Rests D.told start visitor.new link frames.new.framer) }
+        → MatchBool result (Stops D.told start visitor.new link frames.new.framer) (HeededAll D.told start visitor.new link frames.new.framer) }
 {
     if feed_all(rt, turnstile, visitor, &mut frames.framer, piece) {
         return true;
@@ -265,10 +265,10 @@ fn look<R: Wait, C: Clock, D: Datagrams, I: LinkIn>(
     ensures broken { frames.new.broken ≡ is_some frames.new.framer.shown }
     ensures failed { failed.new ≡ nat_lt 0 (I.told link.new).faults }
     ensures reads { (start : Sight C)
-        → Rests D.told start visitor.old (I.told link.old) frames.old.framer
+        → HeededAll D.told start visitor.old (I.told link.old) frames.old.framer
         → MatchBool result
         (Stops D.told start visitor.new (I.told link.new) frames.new.framer)
-        (Rests D.told start visitor.new (I.told link.new) frames.new.framer) }
+        (HeededAll D.told start visitor.new (I.told link.new) frames.new.framer) }
 {
     match link.receive(buf) {
         LinkGot::Bytes(count) => {
@@ -300,7 +300,7 @@ fn read_on<R: Wait, C: Clock, D: Datagrams, I: LinkIn>(
     ensures table { table_of visitor.new.pass ≡ table_of visitor.old.pass }
     ensures failed { result ≡ nat_lt 0 (I.told link.new).faults }
     ensures reads { (start : Sight C)
-        → Rests D.told start visitor.old (I.told link.old) frames.old.framer
+        → HeededAll D.told start visitor.old (I.told link.old) frames.old.framer
         → Stops D.told start visitor.new (I.told link.new) frames.new.framer }
 {
     let mut buf = [0; BUFFER];

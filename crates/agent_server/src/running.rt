@@ -1,6 +1,6 @@
 //! The links of a run, one after another, as their writer goes through them.
 
-ghost use Rattle.std.specs.Prelude.{Option, ◌≡◌, ◌+◌, ◌-◌, ◌^◌, ◌<◌, ◌≤◌, ◌++◌, List, ℕ, [], ◌∷◌, length, min, Some, None, MatchResult, MatchOption, vec_len, vec_capacity, IfSome, IfNone};
+ghost use Rattle.std.specs.Prelude.{Option, ◌≡◌, ◌+◌, ◌-◌, ◌^◌, ◌<◌, ◌≤◌, ◌++◌, List, ℕ, [], ◌∷◌, length, min, Some, None, MatchOption, vec_len, vec_capacity, IfSome, IfNone};
 ghost use Rattle.std.specs.Arc.{arc_value};
 ghost use Rattle.wire_core.specs.Counts.{Rose};
 ghost use Rattle.wire_devices.specs.Dialling.{Dials};
@@ -11,7 +11,7 @@ ghost use Rattle.turnstile.specs.Turns.{of};
 ghost use Rattle.agent_core.specs.declared.events.Input.TheVariants.{Leave};
 ghost use Rattle.agent_server.specs.Entries.{turn_of};
 ghost use Rattle.agent_server.specs.Going.{Went};
-ghost use Rattle.agent_server.specs.Running.{Ends, GoesOn, LinkOpened, IsBack, IsLinkWorker, Over, Rests, StartedAs, TakesLeaveAlone, end_after as end_after_test};
+ghost use Rattle.agent_server.specs.Running.{ComesNext, Ends, IsLinkWorker, LinkOpened, Over, ReaderNeverRan, ReaderRan, Rests, StartedAs, TakesLeaveAlone, end_after as end_after_test};
 
 use crate::desk::AgentDesk;
 use crate::heard::Heard;
@@ -65,6 +65,7 @@ where
 }
 
 /// The links that are over, and what their readers counted.
+#[derive(Drop)]
 pub(crate) struct Past<I, O> {
     pub pairs: Vec<Pair<I, O>>,
     pub lost: u64,
@@ -81,52 +82,61 @@ pub(crate) struct ReaderBack<C, D, I> {
     pub again: u64,
 }
 
-/// The reader of a link that was finished, or never started.
-pub(crate) fn reader_back<C, D, I, W>(
+/// Waits for the reader of a link.
+fn reader_back<C, D, I, W>(
     crew: &mut W,
-    reader: Result<ThreadHelper<Worker<C, D, I>>, Worker<C, D, I>>,
+    helper: ThreadHelper<Worker<C, D, I>>,
 ) -> ReaderBack<C, D, I>
 where
     C: Clock + Send + Drop + 'static,
     D: Datagrams + Send + Drop + 'static,
     I: LinkIn + Send + Drop + 'static,
     W: Crew<Worker<C, D, I>>,
-    requires { MatchResult reader (IsLinkWorker D.told I.told) (IsLinkWorker D.told I.told) }
-    ensures back { IsBack D.told I.told reader result }
+    requires { IsLinkWorker helper }
+    ensures back { ReaderRan D.told I.told helper result }
     ensures faults { W.faults crew.new ≡ W.faults crew.old }
 {
-    match reader {
-        Ok(helper) => match crew.finish(helper) {
-            Ended::Link {
-                link,
-                auth_twin,
-                acct_twin,
-                pass,
-                lost,
-                again,
-                fault: _,
-            } => ReaderBack {
-                pass,
-                link_in: link,
-                twins: Twins {
-                    auth: auth_twin,
-                    acct: acct_twin,
-                },
-                lost,
-                again,
+    match crew.finish(helper) {
+        Ended::Link {
+            link,
+            auth_twin,
+            acct_twin,
+            pass,
+            lost,
+            again,
+            fault: _,
+        } => ReaderBack {
+            pass,
+            link_in: link,
+            twins: Twins {
+                auth: auth_twin,
+                acct: acct_twin,
             },
-            Ended::Reader { .. } => unreachable!(),
+            lost,
+            again,
         },
-        Err(
-            Worker::Link {
-                alloc: _,
-                turnstile: _,
-                pass,
-                link,
-                auth_twin,
-                acct_twin,
-            },
-        ) => ReaderBack {
+        Ended::Reader { .. } => unreachable!(),
+    }
+}
+
+/// Takes back the reader of a link that couldn't be started.
+pub(crate) fn reader_unstarted<C, D, I>(worker: Worker<C, D, I>) -> ReaderBack<C, D, I>
+where
+    C: Clock + Drop,
+    D: Drop,
+    I: Drop,
+    requires { IsLinkWorker worker }
+    ensures { ReaderNeverRan worker result }
+{
+    match worker {
+        Worker::Link {
+            alloc: _,
+            turnstile: _,
+            pass,
+            link,
+            auth_twin,
+            acct_twin,
+        } => ReaderBack {
             pass,
             link_in: link,
             twins: Twins {
@@ -136,7 +146,7 @@ where
             lost: 0,
             again: 0,
         },
-        Err(Worker::Reader { .. }) => unreachable!(),
+        Worker::Reader { .. } => unreachable!(),
     }
 }
 
@@ -167,7 +177,7 @@ where
         mut link_out,
     } = live;
     let end = write_link(rt, turnstile, pass, &mut link_out);
-    let back = reader_back(crew, Ok(helper));
+    let back = reader_back(crew, helper);
     let twins = put_past(turnstile, pass, back, link_out, past);
     (end, twins)
 }
@@ -277,7 +287,7 @@ where
     requires fresh { IsFreshInlet (I.told pair.link_in) × IsFreshOutlet (O.told pair.link_out) }
     requires opened { LinkOpened I.told O.told D.told (known pass.old) twins past.old }
     ensures table { table_of pass.new ≡ table_of pass.old }
-    ensures next { (dials : Dials) → dials.row ≡ 0 → GoesOn I.told O.told D.told result (arc_value turnstile.now) dials dials (W.faults crew.old) (W.faults crew.new) (known pass.old) (known pass.new) past.new }
+    ensures next { (dials : Dials) → dials.row ≡ 0 → ComesNext I.told O.told D.told result (arc_value turnstile.now) dials dials (W.faults crew.old) (W.faults crew.new) (known pass.old) (known pass.new) past.new }
 {
     let Ok(share) = Arc::try_clone(turnstile) else {
         past.pairs.push_reserved(pair);
@@ -296,7 +306,7 @@ where
     match started {
         Ok(helper) => Next::Go(Live { helper, link_out }),
         Err(worker) => {
-            let back = reader_back(crew, Err(worker));
+            let back = reader_unstarted(worker);
             let twins = put_past(turnstile, pass, back, link_out, past);
             give_up(rt, turnstile, pass, RunEnd::NoThread, twins)
         }
@@ -326,7 +336,7 @@ where
     requires few { length past.old.pairs.items < 256 }
     requires rests { Rests I.told O.told D.told (known pass.old) twins past.old }
     ensures table { table_of pass.new ≡ table_of pass.old }
-    ensures next { (dials : Dials) → dials.row ≡ 0 → GoesOn I.told O.told D.told result (arc_value turnstile.now) dials dials (W.faults crew.old) (W.faults crew.new) (known pass.old) (known pass.new) past.new }
+    ensures next { (dials : Dials) → dials.row ≡ 0 → ComesNext I.told O.told D.told result (arc_value turnstile.now) dials dials (W.faults crew.old) (W.faults crew.new) (known pass.old) (known pass.new) past.new }
 {
     let Some(_) = enter(rt, turnstile, pass, &Input::Up) else {
         past.pairs.push_reserved(pair);
@@ -357,7 +367,7 @@ where
     requires row { (L.told dialer.old).row ≡ 0 }
     requires rests { Rests L.In.told L.Out.told D.told (known pass.old) twins past.old }
     ensures table { table_of pass.new ≡ table_of pass.old }
-    ensures next { GoesOn L.In.told L.Out.told D.told result (arc_value turnstile.now) (L.told dialer.old) (L.told dialer.new) (W.faults crew.old) (W.faults crew.new) (known pass.old) (known pass.new) past.new }
+    ensures next { ComesNext L.In.told L.Out.told D.told result (arc_value turnstile.now) (L.told dialer.old) (L.told dialer.new) (W.faults crew.old) (W.faults crew.new) (known pass.old) (known pass.new) past.new }
 {
     if past.pairs.len() >= MOST_LINKS {
         return give_up(rt, turnstile, pass, RunEnd::Worn, twins);

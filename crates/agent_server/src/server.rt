@@ -7,6 +7,7 @@ ghost use Rattle.radius_packet.specs.declared.reasons.Via.TheVariants.{Auth, Acc
 ghost use Rattle.agent_config.specs.Config.{InLimits};
 ghost use Rattle.agent_status.specs.declared.status.Status.TheVariants.{NoThread, OutOfMemory};
 ghost use Rattle.wire_devices.specs.Dialling.{Dials};
+ghost use Rattle.wire_devices.specs.Links.{IsFreshInlet};
 ghost use Rattle.wire_devices.specs.Sockets.{Socket};
 ghost use Rattle.turnstile.specs.declared.view.Known.{Known};
 ghost use Rattle.turnstile.specs.Knowing.{Carries};
@@ -16,13 +17,13 @@ ghost use Rattle.agent_server.specs.Desks.{HasRead, StandsBy};
 ghost use Rattle.agent_server.specs.Entries.{ticks};
 ghost use Rattle.agent_server.specs.Running.{RoseBy, StartedAs};
 ghost use Rattle.agent_server.specs.Server.{EndsEarly, Served, status_given};
-ghost use Rattle.agent_server.specs.Starting.{Alike, AllDone, FirstFails, FirstOpened, IsAt, IsLinkReader, IsRead, IsReader, IsReady, IsSocketBack, IsSocketWorker, IsStart, StartsFor};
+ghost use Rattle.agent_server.specs.Starting.{Alike, AllDone, AreShares, FirstFails, FirstOpened, IsAt, IsLinkReader, IsLinkReaderOf, IsRead, IsReader, IsReaderOf, IsReady, IsSocketBack, IsSocketWorker, IsStart, StartsFor};
 ghost use Rattle.agent_server.specs.Workers.{CanRun};
 
 use crate::desk::{AgentDesk, DeskEnd, RunBase};
 use crate::heard::Heard;
 use crate::link_making::{Dialling, dial};
-use crate::running::{Live, MOST_LINKS, Past, ReaderBack, RunEnd, Twins, reader_back, serve_links};
+use crate::running::{Live, MOST_LINKS, Past, RunEnd, Twins, reader_unstarted, serve_links};
 use crate::trail::{Links, Pair, Trail};
 use crate::turns::enter;
 use crate::workers::{Ended, Shared, Worker};
@@ -64,24 +65,30 @@ struct Outcome<C, D, I, O> {
     trail: Option<Trail<C, D, I, O>>,
 }
 
+/// A share of the turnstile for each worker.
+#[derive(Drop)]
+struct Shares<C: Clock> {
+    auth: Shared<C>,
+    acct: Shared<C>,
+    link: Shared<C>,
+}
+
 /// A turnstile that was started, with a share of it for each worker, and room for the links.
 struct Stand<C: Clock, I, O> {
     turnstile: Shared<C>,
-    auth_share: Shared<C>,
-    acct_share: Shared<C>,
-    link_share: Shared<C>,
+    shares: Shares<C>,
     pass: Pass<AgentDesk<C>>,
-    pairs: Vec<Pair<I, O>>,
+    past: Past<I, O>,
 }
 
-/// A share of the turnstile for each of three workers.
-fn shares<C: Clock + Drop>(turnstile: &Shared<C>) -> Option<(Shared<C>, Shared<C>, Shared<C>)>
-    ensures { IfSome result (λ r. (arc_value r.0 ≡ arc_value turnstile.now) × (arc_value r.1 ≡ arc_value turnstile.now) × (arc_value r.2 ≡ arc_value turnstile.now)) }
+/// Makes a share of the turnstile for each worker.
+fn make_shares<C: Clock + Drop>(turnstile: &Shared<C>) -> Option<Shares<C>>
+    ensures { IfSome result (AreShares (arc_value turnstile.now)) }
 {
     let auth = Arc::try_clone(turnstile).ok()?;
     let acct = Arc::try_clone(turnstile).ok()?;
     let link = Arc::try_clone(turnstile).ok()?;
-    Some((auth, acct, link))
+    Some(Shares { auth, acct, link })
 }
 
 /// Ends a turnstile at which nobody else is, and gives its clock.
@@ -152,14 +159,16 @@ fn share<C: Clock + Drop, I: Drop, O: Drop>(
         Ok(turnstile) => turnstile,
         Err(refused) => return Err(clock_of(&refused.value, pass)),
     };
-    match shares(&turnstile) {
-        Some((auth_share, acct_share, link_share)) => Ok(Stand {
+    match make_shares(&turnstile) {
+        Some(shares) => Ok(Stand {
             turnstile,
-            auth_share,
-            acct_share,
-            link_share,
+            shares,
             pass,
-            pairs,
+            past: Past {
+                pairs,
+                lost: 0,
+                again: 0,
+            },
         }),
         None => Err(clock_of(&turnstile, pass)),
     }
@@ -195,7 +204,7 @@ where
     ensures same { ((known pass.new).first ≡ (known pass.old).first) × ((known pass.new).numbers ≡ (known pass.old).numbers) }
     ensures opened { IfOk result (λ first. FirstOpened L.In.told L.Out.told D.told first (known pass.new).seen (L.told dialer.old) (L.told dialer.new)) }
     ensures alike { IfOk result (λ first. Alike (D.told auth.old) (D.told auth.new) × Alike (D.told acct.old) (D.told acct.new)) }
-    ensures failed { IfErr result (λ status. FirstFails status (known pass.new).seen (L.told dialer.new)
+    ensures failed { IfErr result (λ status. FirstFails status (known pass.new).seen (L.told dialer.old) (L.told dialer.new)
         (Rose (D.told auth.old).faults (D.told auth.new).faults ⊎ Rose (D.told acct.old).faults (D.told acct.new).faults)) }
 {
     let pair = match dial(rt, turnstile, pass, dialer) {
@@ -222,10 +231,62 @@ where
     })
 }
 
+/// The three workers of a run.
+struct Workers<C: Clock, D, I> {
+    auth: Worker<C, D, I>,
+    acct: Worker<C, D, I>,
+    link: Worker<C, D, I>,
+}
+
+/// Makes the three workers. Each has a share of the turnstile and a number of the writer's pass.
+fn make_workers<C: Clock + Drop, D, I>(
+    alloc: Global,
+    turnstile: &Shared<C>,
+    pass: &mut Pass<AgentDesk<C>>,
+    shares: Shares<C>,
+    auth: D,
+    acct: D,
+    link: I,
+    twins: Twins<D>,
+) -> Workers<C, D, I>
+    requires table { table_of pass.old ≡ arc_value turnstile.now }
+    requires numbers { (known pass.old).numbers ≡ 0 ∷ 1 ∷ 2 ∷ 3 ∷ [] }
+    requires shares { AreShares (arc_value turnstile.now) shares }
+    ensures own { IsAt (arc_value turnstile.now) 0 (table_of pass.new) (known pass.new) }
+    ensures same { ((known pass.new).seen ≡ (known pass.old).seen) × ((known pass.new).first ≡ (known pass.old).first) }
+    ensures auth { IsReaderOf (arc_value turnstile.now) 1 Auth (known pass.new) auth result.auth }
+    ensures acct { IsReaderOf (arc_value turnstile.now) 2 Acct (known pass.new) acct result.acct }
+    ensures link { IsLinkReaderOf (arc_value turnstile.now) 3 (known pass.new) link twins result.link }
+{
+    let link = Worker::Link {
+        alloc,
+        turnstile: shares.link,
+        pass: turnstile.split(pass),
+        link,
+        auth_twin: twins.auth,
+        acct_twin: twins.acct,
+    };
+    let acct = Worker::Reader {
+        alloc,
+        turnstile: shares.acct,
+        pass: turnstile.split(pass),
+        via: Via::Acct,
+        socket: acct,
+    };
+    let auth = Worker::Reader {
+        alloc,
+        turnstile: shares.auth,
+        pass: turnstile.split(pass),
+        via: Via::Auth,
+        socket: auth,
+    };
+    Workers { auth, acct, link }
+}
+
 /// A worker that was started, or wasn't.
 type Start<C, D, I> = Result<ThreadHelper<Worker<C, D, I>>, Worker<C, D, I>>;
 
-/// The three workers of a run.
+/// The three workers of a run, started.
 struct Team<C, D, I>
 where
     C: Clock + Send + Drop + 'static,
@@ -252,21 +313,20 @@ where
 /// Starts the three workers. After one that can't be started no other is.
 fn start_team<C, D, I, W>(
     crew: &mut W,
-    auth: Worker<C, D, I>,
-    acct: Worker<C, D, I>,
-    link: Worker<C, D, I>,
+    workers: Workers<C, D, I>,
 ) -> Result<Team<C, D, I>, Unteamed<C, D, I>>
 where
     C: Clock + Send + Drop + 'static,
     D: Datagrams + Send + Drop + 'static,
     I: LinkIn + Send + Drop + 'static,
     W: Crew<Worker<C, D, I>>,
-    requires { CanRun D.told I.told auth × CanRun D.told I.told acct × CanRun D.told I.told link }
-    ensures ok { IfOk result (λ team. (team.auth ≡ auth) × (team.acct ≡ acct) × (team.link ≡ link)) }
+    requires can { CanRun D.told I.told workers.auth × CanRun D.told I.told workers.acct × CanRun D.told I.told workers.link }
+    ensures ok { IfOk result (λ team. (team.auth ≡ workers.auth) × (team.acct ≡ workers.acct) × (team.link ≡ workers.link)) }
     ensures unrefused { IfOk result (λ team. W.faults crew.new ≡ W.faults crew.old) }
-    ensures err { IfErr result (λ team. IsStart auth team.auth × IsStart acct team.acct × (team.link ≡ link)) }
+    ensures err { IfErr result (λ team. IsStart workers.auth team.auth × IsStart workers.acct team.acct × (team.link ≡ workers.link)) }
     ensures refused { IfErr result (λ team. Rose (W.faults crew.old) (W.faults crew.new)) }
 {
+    let Workers { auth, acct, link } = workers;
     let auth = match crew.start(auth) {
         Ok(helper) => helper,
         Err(auth) => {
@@ -295,6 +355,43 @@ where
             link,
         }),
     }
+}
+
+/// Makes the three workers and starts them.
+fn start_workers<C, D, I, W>(
+    alloc: Global,
+    turnstile: &Shared<C>,
+    pass: &mut Pass<AgentDesk<C>>,
+    shares: Shares<C>,
+    crew: &mut W,
+    auth: D,
+    acct: D,
+    link: I,
+    twins: Twins<D>,
+) -> Result<Team<C, D, I>, Unteamed<C, D, I>>
+where
+    C: Clock + Send + Drop + 'static,
+    D: Datagrams + Send + Drop + 'static,
+    I: LinkIn + Send + Drop + 'static,
+    W: Crew<Worker<C, D, I>>,
+    requires table { table_of pass.old ≡ arc_value turnstile.now }
+    requires numbers { (known pass.old).numbers ≡ 0 ∷ 1 ∷ 2 ∷ 3 ∷ [] }
+    requires shares { AreShares (arc_value turnstile.now) shares }
+    requires rows { ((D.told auth).row ≡ 0) × ((D.told acct).row ≡ 0) }
+    requires fresh { IsFreshInlet (I.told link) }
+    ensures own { IsAt (arc_value turnstile.now) 0 (table_of pass.new) (known pass.new) }
+    ensures same { ((known pass.new).seen ≡ (known pass.old).seen) × ((known pass.new).first ≡ (known pass.old).first) }
+    ensures ok { IfOk result (λ team. IsReaderOf (arc_value turnstile.now) 1 Auth (known pass.new) auth team.auth
+        × IsReaderOf (arc_value turnstile.now) 2 Acct (known pass.new) acct team.acct
+        × IsLinkReaderOf (arc_value turnstile.now) 3 (known pass.new) link twins team.link) }
+    ensures unrefused { IfOk result (λ team. W.faults crew.new ≡ W.faults crew.old) }
+    ensures err { IfErr result (λ team. MatchResult team.auth (IsReader (arc_value turnstile.now) 1) (IsReader (arc_value turnstile.now) 1)
+        × MatchResult team.acct (IsReader (arc_value turnstile.now) 2) (IsReader (arc_value turnstile.now) 2)
+        × IsLinkReader (arc_value turnstile.now) 3 team.link) }
+    ensures refused { IfErr result (λ team. Rose (W.faults crew.old) (W.faults crew.new)) }
+{
+    let workers = make_workers(alloc, turnstile, pass, shares, auth, acct, link, twins);
+    start_team(crew, workers)
 }
 
 /// What the reader of a socket gives back.
@@ -373,31 +470,17 @@ where
 {
     let _ = enter(rt, turnstile, &mut pass, &Input::Leave);
     let Unteamed { auth, acct, link } = team;
-    let link = reader_back(crew, Err(link));
+    let link = reader_unstarted(link);
     let auth = socket_back(crew, auth);
     let acct = socket_back(crew, acct);
-    let ReaderBack {
-        pass: link_pass,
-        ..
-    } = link;
-    let SocketBack {
-        pass: auth_pass,
-        socket: auth,
-        ..
-    } = auth;
-    let SocketBack {
-        pass: acct_pass,
-        socket: acct,
-        ..
-    } = acct;
-    turnstile.join(&mut pass, link_pass);
-    turnstile.join(&mut pass, auth_pass);
-    turnstile.join(&mut pass, acct_pass);
+    turnstile.join(&mut pass, link.pass);
+    turnstile.join(&mut pass, auth.pass);
+    turnstile.join(&mut pass, acct.pass);
     Outcome {
         status: Status::NoThread,
         clock: clock_of(turnstile, pass),
-        auth,
-        acct,
+        auth: auth.socket,
+        acct: acct.socket,
         trail: None,
     }
 }
@@ -451,7 +534,7 @@ where
     requires readers { IsReader (arc_value turnstile.now) 1 team.auth × IsReader (arc_value turnstile.now) 2 team.acct }
     ensures some { IsSome result.trail }
     ensures served { (base : RunBase) (dials : Dials) (auth acct : Socket) → Carries (StandsBy C.readings) (known pass) base
-        → RoseBy (ticks (of 0 (known pass).seen)) dials.faults (L.told dialer.old).faults
+        → RoseBy (ticks (of 0 (known pass).seen)) dials.faults (L.told dialer.old).faults → dials.faults ≤ (L.told dialer.old).faults
         → StartsFor D.told Auth 1 (known pass) auth team.auth → StartsFor D.told Acct 2 (known pass) acct team.acct
         → IfSome result.trail (λ trail. Served C.readings D.told L.In.told L.Out.told base.config base.until base.before auth acct (D.told result.auth) (D.told result.acct)
         dials (L.told dialer.new) (Rose (W.faults crew.old) (W.faults crew.new)) result.clock trail result.status) }
@@ -494,20 +577,8 @@ where
         → IfSome result.trail (λ trail. Served C.readings D.told I.told O.told base.config base.until base.before auth_socket acct_socket (D.told result.auth) (D.told result.acct)
         first last (Rose starts now) result.clock trail result.status) }
 {
-    let SocketBack {
-        pass: auth_pass,
-        socket: auth,
-        lost: auth_lost,
-        failed: auth_failed,
-    } = auth;
-    let SocketBack {
-        pass: acct_pass,
-        socket: acct,
-        lost: acct_lost,
-        failed: acct_failed,
-    } = acct;
-    turnstile.join(&mut pass, auth_pass);
-    turnstile.join(&mut pass, acct_pass);
+    turnstile.join(&mut pass, auth.pass);
+    turnstile.join(&mut pass, acct.pass);
     let (desk, turns) = turnstile.close(pass);
     let DeskEnd {
         clock,
@@ -519,12 +590,12 @@ where
         auth: auth_twin,
         acct: acct_twin,
     } = twins;
-    let lost = lost.saturating_add(auth_lost).saturating_add(acct_lost);
+    let lost = lost.saturating_add(auth.lost).saturating_add(acct.lost);
     Outcome {
-        status: status_of(end, auth_failed | acct_failed, closed, pairs.len()),
+        status: status_of(end, auth.failed | acct.failed, closed, pairs.len()),
         clock,
-        auth,
-        acct,
+        auth: auth.socket,
+        acct: acct.socket,
         trail: Some(Trail {
             turns,
             entries,
@@ -561,17 +632,15 @@ where
         → IfSome result.trail (λ trail. Served C.readings D.told L.In.told L.Out.told base.config base.until base.before (D.told auth) (D.told acct) (D.told result.auth) (D.told result.acct)
         (L.told dialer.old) (L.told dialer.new) (Rose (W.faults crew.old) (W.faults crew.new)) result.clock trail result.status) }
     ensures early { (base : RunBase) → Carries (StandsBy C.readings) (known stand.pass) base
-        → IfNone result.trail (EndsEarly result.status (C.readings result.clock) base.until (L.told dialer.new)
+        → IfNone result.trail (EndsEarly result.status (C.readings result.clock) base.until (L.told dialer.old) (L.told dialer.new)
         (Rose (D.told auth).faults (D.told result.auth).faults ⊎ Rose (D.told acct).faults (D.told result.acct).faults)
         (Rose (W.faults crew.old) (W.faults crew.new))) }
 {
     let Stand {
         turnstile,
-        auth_share,
-        acct_share,
-        link_share,
+        shares,
         mut pass,
-        pairs,
+        past,
     } = stand;
     let FirstLink {
         pair: Pair { link_in, link_out },
@@ -588,43 +657,12 @@ where
             };
         }
     };
-    let Twins {
-        auth: auth_twin,
-        acct: acct_twin,
-    } = twins;
-    let link = Worker::Link {
-        alloc,
-        turnstile: link_share,
-        pass: turnstile.split(&mut pass),
-        link: link_in,
-        auth_twin,
-        acct_twin,
-    };
-    let acct = Worker::Reader {
-        alloc,
-        turnstile: acct_share,
-        pass: turnstile.split(&mut pass),
-        via: Via::Acct,
-        socket: acct,
-    };
-    let auth = Worker::Reader {
-        alloc,
-        turnstile: auth_share,
-        pass: turnstile.split(&mut pass),
-        via: Via::Auth,
-        socket: auth,
-    };
-    match start_team(crew, auth, acct, link) {
-        Ok(team) => {
-            let past = Past {
-                pairs,
-                lost: 0,
-                again: 0,
-            };
-            lead(
-                rt, alloc, &turnstile, pass, dialer, crew, team, link_out, past,
-            )
-        }
+    match start_workers(
+        alloc, &turnstile, &mut pass, shares, crew, auth, acct, link_in, twins,
+    ) {
+        Ok(team) => lead(
+            rt, alloc, &turnstile, pass, dialer, crew, team, link_out, past,
+        ),
         Err(team) => disband(rt, &turnstile, pass, crew, team),
     }
 }
@@ -667,7 +705,7 @@ where
         (D.told result.world.auth) (D.told result.world.acct) (L.told world.dialer) (L.told result.world.dialer)
         (Rose (W.faults world.crew) (W.faults result.world.crew)) result.world.clock trail result.status) }
     ensures early { (before : List ℕ) → HasRead (C.readings world.clock) before []
-        → IfNone result.trail (EndsEarly result.status (C.readings result.world.clock) until (L.told result.world.dialer)
+        → IfNone result.trail (EndsEarly result.status (C.readings result.world.clock) until (L.told world.dialer) (L.told result.world.dialer)
         (Rose (D.told world.auth).faults (D.told result.world.auth).faults ⊎ Rose (D.told world.acct).faults (D.told result.world.acct).faults)
         (Rose (W.faults world.crew) (W.faults result.world.crew))) }
 {

@@ -42,6 +42,12 @@ impl<I, O> Links<I, O> {
     {
         self.pairs.as_slice()
     }
+
+    pub fn into_vec(self) -> Vec<Pair<I, O>>
+        ensures { result.items ≡ self }
+    {
+        self.pairs
+    }
 }
 
 /// The turns of a run, what is left of its devices, and its counts, which stop at 2^64 - 1: the turns with an answer, the

@@ -1,5 +1,8 @@
 //! The workers of the server: a reader of each socket, and the reader of the present link.
 
+ghost use Rattle.std.specs.Prelude.{◌≡◌};
+ghost use Rattle.std.specs.Bool.{then_some};
+ghost use Rattle.agent_status.specs.declared.status.Status.TheVariants.{LinkFault};
 ghost use Rattle.agent_server.specs.Workers.{CanRun, Ran};
 
 use crate::desk::AgentDesk;
@@ -62,6 +65,30 @@ pub enum Ended<C, D, I> {
     },
 }
 
+/// What came of the reader of a link.
+fn link_ended<C, D, I>(end: LinkEnd<C, D, I>) -> Ended<C, D, I>
+    ensures { result ≡ Ended.Link end.link end.auth_twin end.acct_twin end.pass end.lost end.again (then_some end.failed LinkFault) }
+{
+    let LinkEnd {
+        pass,
+        link,
+        auth_twin,
+        acct_twin,
+        lost,
+        again,
+        failed,
+    } = end;
+    Ended::Link {
+        link,
+        auth_twin,
+        acct_twin,
+        pass,
+        lost,
+        again,
+        fault: failed.then_some(Status::LinkFault),
+    }
+}
+
 impl<C, D, I> Job for Worker<C, D, I>
 where
     C: Clock + Send + Drop + 'static,
@@ -100,24 +127,7 @@ where
                 acct_twin,
             } => {
                 let end = read_link(rt, alloc, &turnstile, pass, link, auth_twin, acct_twin);
-                let LinkEnd {
-                    pass,
-                    link,
-                    auth_twin,
-                    acct_twin,
-                    lost,
-                    again,
-                    failed,
-                } = end;
-                Ended::Link {
-                    link,
-                    auth_twin,
-                    acct_twin,
-                    pass,
-                    lost,
-                    again,
-                    fault: failed.then_some(Status::LinkFault),
-                }
+                link_ended(end)
             }
         }
     }

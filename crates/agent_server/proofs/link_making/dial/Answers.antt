@@ -1,8 +1,11 @@
-use Rattle.std.proofs.Common.{◌∙◌, true, subst, arith}
-use Rattle.turnstile.specs.Passes.{known, table_of}
+use Rattle.std.proofs.Common.{◌∙◌, refl, subst}
+use Rattle.turnstile.specs.Passes.{known}
 use Rattle.agent_server.specs.Running.{TookTick}
-use Rattle.agent_server.proofs.DialLemmas.{dialling-finished, dialling-made, dialling-on}
+use Rattle.agent_server.proofs.DialLemmas.{dialling-finished, dialling-none, dialling-on}
 use Rattle.agent_server.proofs.link_making.dial.Goals as goal
+
+pub loop-row-init : goal.loop-row-init
+loop-row-init g c = record { table = refl; so_far = dialling-none (known c.args.pass.now) (g.L.Dialer.told c.args.dialer.now) c.requires.row }
 
 pub returns-then-row-lt-MOST_DIALS-clause-dialled : goal.returns-then-row-lt-MOST_DIALS-clause-dialled
 returns-then-row-lt-MOST_DIALS-clause-dialled g c =

@@ -14,7 +14,7 @@ returns-in_default-clause-next g c = λ dials low.
     let (left, went) = c.give_up.ensures.went in
     rw c.give_up.ensures.next
     (ends-unopened g.I.LinkIn.told g.O.LinkOut.told g.D.Datagrams.told dials _ (known c.args.pass.now) (known c.enter.new.pass) (known c.give_up.new.pass) c.args.twins c.args.past.now _
-    c.args.pair left c.requires.rests c.in_default.ensures.went went c.requires.few c.push_reserved.ensures.items c.push_reserved.ensures.capacity refl refl
+    c.args.pair left low c.requires.rests c.in_default.ensures.went went c.requires.few c.push_reserved.ensures.items c.push_reserved.ensures.capacity refl refl
     c.requires.fresh.0 c.requires.fresh.1)
 
 pub returns-clause-next : goal.returns-clause-next

@@ -1,4 +1,3 @@
-use Rattle.std.proofs.Common.{subst}
 use Rattle.std.specs.Arc.{arc_value}
 use Rattle.turnstile.specs.Passes.{known}
 use Rattle.agent_server.proofs.LinkOverLemmas.{link-over}

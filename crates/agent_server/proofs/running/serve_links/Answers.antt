@@ -1,12 +1,22 @@
-use Rattle.std.proofs.Common.{◌∙◌, sym, subst}
+use Rattle.std.proofs.Common.{◌∙◌, refl, sym, subst}
 use Rattle.std.specs.Arc.{arc_value}
 use Rattle.wire_core.specs.Counts.{Rose}
 use Rattle.turnstile.specs.Passes.{known}
 use Rattle.turnstile.specs.Turns.{of}
 use Rattle.agent_server.specs.declared.running.Next.TheVariants as next
-use Rattle.agent_server.specs.Running.{GoesOn}
-use Rattle.agent_server.proofs.NextLinkLemmas.{goes-after, over-ends, over-rests, ticked-none, ticked-on}
+use Rattle.agent_server.specs.Running.{ComesNext}
+use Rattle.agent_server.proofs.NextLinkLemmas.{goes-after, over-ends, over-rests, ticked-none, ticked-on, ticked-still}
 use Rattle.agent_server.proofs.running.serve_links.Goals as goal
+
+pub loop-init : goal.loop-init
+loop-init g c = record {
+  table = refl;
+  started = c.requires.started;
+  row = c.requires.row;
+  first = refl;
+  ticked = ticked-still (of 0 (known c.args.pass.now).seen) (g.L.Dialer.told c.args.dialer.now).faults;
+  unrefused = refl;
+}
 
 pub returns-in-Some-end_after-clause-ends : goal.returns-in-Some-end_after-clause-ends
 returns-in-Some-end_after-clause-ends g c =
@@ -19,7 +29,7 @@ returns-in-Some-end_after-clause-ends g c =
     goes-after g.L.In.LinkIn.told g.L.Out.LinkOut.told g.D.Datagrams.told (next.Stop c.in-Some-end_after.end twins) (arc_value c.args.turnstile.now) (g.L.Dialer.told c.args.dialer.now)
     dials dials (g.W.Crew.faults c.args.crew.now) (g.W.Crew.faults c.serve_link-end.new.crew) first before now c.serve_link-end.new.past c.loop.invariant.first c.loop.invariant.ticked
     (over-ends g.L.In.LinkIn.told g.L.Out.LinkOut.told g.D.Datagrams.told c.serve_link-end.result.0 c.in-Some-end_after.end dials
-    (Rose (g.W.Crew.faults c.args.crew.now) (g.W.Crew.faults c.serve_link-end.new.crew)) before now twins c.serve_link-end.new.past (sym c.in-Some-end_after.ensures) over)
+    (Rose (g.W.Crew.faults c.args.crew.now) (g.W.Crew.faults c.serve_link-end.new.crew)) before now twins c.serve_link-end.new.past c.loop.invariant.row (sym c.in-Some-end_after.ensures) over)
 
 pub next_link-requires-clause-rests : goal.next_link-requires-clause-rests
 next_link-requires-clause-rests g c κs within =
@@ -61,5 +71,5 @@ returns-in-Stop-clause-ends g c =
     dials later (g.W.Crew.faults c.args.crew.now) (g.W.Crew.faults c.next_link.new.crew) first before now c.next_link.new.past c.loop.invariant.first c.loop.invariant.ticked
     (goes-after g.L.In.LinkIn.told g.L.Out.LinkOut.told told stop (arc_value c.args.turnstile.now) dials dials later (g.W.Crew.faults c.args.crew.now) (g.W.Crew.faults c.next_link.new.crew)
     before then now c.next_link.new.past over.first (ticked-none (of 0 before.seen) (of 0 then.seen) dials.faults over.ticked)
-    (subst (λ n. GoesOn g.L.In.LinkIn.told g.L.Out.LinkOut.told told stop (arc_value c.args.turnstile.now) dials later n (g.W.Crew.faults c.next_link.new.crew) then now c.next_link.new.past)
+    (subst (λ n. ComesNext g.L.In.LinkIn.told g.L.Out.LinkOut.told told stop (arc_value c.args.turnstile.now) dials later n (g.W.Crew.faults c.next_link.new.crew) then now c.next_link.new.past)
     starts c.in-Stop.ensures.next))

@@ -1,4 +1,4 @@
-use Rattle.std.proofs.Common.{inr}
+use Rattle.std.proofs.Common.{inl, arith}
 use Rattle.turnstile.specs.Passes.{known}
 use Rattle.agent_server.proofs.StartingLemmas.{dial-finished, first-opened}
 use Rattle.agent_server.proofs.server.first_link.Goals as goal
@@ -12,4 +12,9 @@ returns-clause-opened g c =
 pub returns-in-Finished-clause-failed : goal.returns-in-Finished-clause-failed
 returns-in-Finished-clause-failed g c =
     let (mine, went, dialled) = c.in-Finished.ensures.dialled in
-    inr (dial-finished g.L.In.LinkIn.told g.L.Out.LinkOut.told (known c.args.pass.now) (known c.dial.new.pass) _ _ mine c.requires.numbers c.requires.seen went dialled)
+    dial-finished g.L.In.LinkIn.told g.L.Out.LinkOut.told (known c.args.pass.now) (known c.dial.new.pass) _ _ mine c.requires.row c.requires.numbers c.requires.seen went dialled
+
+pub returns-in-Failed-clause-failed : goal.returns-in-Failed-clause-failed
+returns-in-Failed-clause-failed g c =
+    let (mine, went, dialled) = c.in-Failed.ensures.dialled in
+    (dialled.failed (omega (arith, c.requires.row, dialled.ends)), inl dialled.ends)

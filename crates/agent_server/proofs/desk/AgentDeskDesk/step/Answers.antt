@@ -1,6 +1,5 @@
-use Rattle.std.proofs.Common.{◌≡◌, [], ◌∷◌, ◌++◌, List, length, vec_capacity, refl, sym, ap, ◌∙◌, subst}
+use Rattle.std.proofs.Common.{[], ◌∷◌, ◌++◌, length, vec_capacity, refl, sym, ap, ◌∙◌, subst}
 use Rattle.wire_devices.specs.Telling.{Adds}
-use Rattle.agent_core.specs.declared.events.Output.{Output}
 use Rattle.agent_core.specs.declared.ledger.Ledger.{Ledger}
 use Rattle.agent_core.specs.History.{outputs_after}
 use Rattle.agent_core.specs.Places.{Event}

@@ -1,4 +1,4 @@
-use Rattle.std.proofs.Common.{◌≡◌, ◌∙◌, ◌∷◌, [], ◌++◌, true, List, Some, None, ap, sym, subst, refl, arith}
+use Rattle.std.proofs.Common.{◌≡◌, ◌∙◌, ◌∷◌, [], ◌++◌, true, List, Some, ap, sym, subst, refl, arith}
 use Rattle.agent_config.specs.declared.config.Config.{Config}
 use Rattle.agent_config.specs.declared.client.Client.{Client}
 use Rattle.agent_config.specs.Config.{InLimits, are_settings_in_limits, is_client_in_limits}

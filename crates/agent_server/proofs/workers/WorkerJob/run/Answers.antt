@@ -1,12 +1,12 @@
-use Rattle.std.proofs.Common.{ap, ◌∙◌}
+use Rattle.std.proofs.Common.{ap}
 use Rattle.std.specs.Bool.{then_some}
 use Rattle.agent_status.specs.declared.status.Status.TheVariants.{LinkFault}
 use Rattle.agent_server.proofs.workers.WorkerJob.run.Goals as goal
 
 pub returns-in-Link : goal.returns-in-Link
 returns-in-Link g c =
-    rw c.in-Link.is (
+    rw (c.in-Link.is, c.link_ended.ensures) (
       c.read_link-end.ensures.table,
-      c.then_some-in-Link.ensures ∙ ap (λ failed. then_some failed LinkFault) c.read_link-end.ensures.failed,
+      ap (λ failed. then_some failed LinkFault) c.read_link-end.ensures.failed,
       c.read_link-end.ensures.reads,
     )
