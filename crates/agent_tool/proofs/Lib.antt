@@ -1,6 +1,1 @@
-pub mod CheckLemmas
-pub mod MeasureLemmas
-pub mod ReplayLemmas
-pub mod SessionLemmas
-pub mod ShowLemmas
-pub mod TaskLemmas
+pub mod ServeLemmas

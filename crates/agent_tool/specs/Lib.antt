@@ -1,8 +1,4 @@
-pub mod Checks
-pub mod Command
-pub mod Generated
-pub mod Replay
-pub mod Session
-pub mod Shown
-pub mod Status
-pub mod Tasks
+pub mod PeerEnds
+pub mod Serves
+pub mod TextEnds
+pub mod Words

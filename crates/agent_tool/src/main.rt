@@ -1,32 +1,31 @@
-//! Runs the commands of the agent over stdin and stdout: `agent replay` prints what the agent sends for a transcript,
-//! `agent check` settings as lines of a transcript, `agent show` what packets and messages hold, `agent generate` a
-//! transcript of logins, and `agent measure` the end line of its replay. Where the status isn't 0, its name stands on
-//! stderr.
+//! The program: `agent serve` serves RADIUS clients by a Diameter home server, and the other commands go from text to text,
+//! or are the peers of its tests. Where the status isn't 0, its name stands on stderr.
 #![tactic(auto)]
 
+ghost use Rattle.std.specs.Prelude.{◌≡◌};
+
 mod agent;
-mod check;
 mod command;
-mod generate;
-mod measure;
-mod replay;
-mod session;
-mod show;
-mod whole_input;
-mod work;
+mod peer_commands;
+mod server_run;
 
 pub use agent::agent;
+use agent_server::{Finish, Pair, Trail, World};
 use agent_status::Status;
-pub use check::check;
-use command::{Command, command_of};
-pub use generate::generate;
-pub use measure::measure;
-pub use replay::replay;
-pub use show::show;
+use command::{Command, TextCommand, command_of};
+pub use command::{Places, places_of};
+use std::alloc::Global;
 use std::hash::RandomState;
+use std::net::{Ipv4Addr, Net, TcpListener, TcpStream};
 use std::process::ExitCode;
-use std::{env, io};
-use wire_core::{ReaderSource, WriterSink};
+use std::sync::Wait;
+use std::thread::Threads;
+use std::{env, io, rt};
+use wire_core::{ReaderSource, Sink, Source, WriterSink};
+use wire_devices::{
+    Clock, Dialer, LinkGot, LinkIn, SystemClock, TcpAccepter, TcpDialer, TcpIn, TcpOut, ThreadCrew,
+    UdpDatagrams,
+};
 
 const USAGE: &str = "\
 usage: agent replay < TRANSCRIPT
@@ -34,6 +33,9 @@ usage: agent replay < TRANSCRIPT
        agent show < LINES
        agent generate LOGINS SEED
        agent measure LOGINS SEED
+       agent serve ADDRESS AUTH ACCT PEER PEERPORT MILLIS < SETTINGS
+       agent home ADDRESS PORT MILLIS < USERS
+       agent nas ADDRESS PORT MILLIS < PACKETS
        agent --help
        agent --version
 ";
@@ -53,8 +55,16 @@ generate writes a transcript of 1 to 1000000 logins of one client, some of them 
 below 2^32, decides which requests come again, and which answers refuse. measure replays that transcript, line by line
 as it is made, and prints its end line alone.
 
+serve listens at ADDRESS for logins at the port AUTH and for accounting at ACCT, links with the home server at PEER and
+PEERPORT, and ends after MILLIS milliseconds. Then it prints how many inputs it took and how many it lost.
+
+home is a home server for tests: it listens for one link, knows users by lines 'NAME HEX' of a name and a password, and
+prints the command of each message that it answers. nas is a client for tests: it sends each packet, a line of HEX, until
+it is answered, and prints 'reply HEX', or 'none' after MILLIS milliseconds.
+
 exit statuses: 0 done, 1 other words, 2 settings with a fault, 3 a line that may not stand where it stands,
-4 the input failed, 5 the output failed, 9 no memory, 12 an input that is too long, 14 no random octets
+4 the input failed, 5 the output failed, 6 no link, 7 a link that the home server refused, 8 no thread, 9 no memory,
+10 a socket failed, 11 too many links ended, 12 an input that is too long, 14 no random octets
 ";
 
 /// The words after the program's name.
@@ -76,25 +86,98 @@ fn status_without_words(error: &io::Error) -> Status {
 
 /// What was wanted in place of a bad line of the command's input.
 fn wanted(command: Option<Command>, line: u64, reason: u32) -> &'static str {
-    match reason {
-        1 => "expected at most 140000 octets",
-        2 => match command {
-            Some(Command::Show) => "expected 'radius HEX' or 'diameter HEX'",
-            _ => {
-                if line == 1 {
-                    "expected an agent line"
-                } else {
-                    "expected an event line, or a client line before all events"
-                }
+    match (reason, command) {
+        (1, _) => "expected at most 140000 octets",
+        (
+            2,
+            Some(
+                Command::Run {
+                    places: Places::Home { .. },
+                    ..
+                },
+            ),
+        ) => "expected 'NAME HEX'",
+        (2, Some(Command::Run { .. })) => "expected one word of HEX",
+        (
+            2,
+            Some(
+                Command::Text {
+                    command: TextCommand::Show,
+                },
+            ),
+        ) => { "expected 'radius HEX' or 'diameter HEX'" }
+        (2, _) => {
+            if line == 1 {
+                "expected an agent line"
+            } else {
+                "expected an event line, or a client line before all events"
             }
-        },
-        3 => "a word isn't of its kind or not within its limits",
+        }
+        (
+            3,
+            Some(
+                Command::Run {
+                    places: Places::Nas { .. },
+                    ..
+                },
+            ),
+        ) => "it is no RADIUS packet in HEX",
+        (3, _) => "a word isn't of its kind or not within its limits",
         _ => "another client has this address",
     }
 }
 
+/// Why nothing could be done at an address.
+struct Trouble {
+    what: &'static str,
+    address: u32,
+    port: u16,
+    why: io::ErrorKind,
+}
+
+/// How the program ends, and what was the trouble with an address where that is why.
+struct Outcome {
+    status: Status,
+    trouble: Option<Trouble>,
+}
+
+fn ended(status: Status) -> Outcome {
+    Outcome {
+        status,
+        trouble: None,
+    }
+}
+
+/// A socket couldn't be opened at this address.
+fn unopened(status: Status, address: u32, port: u16, error: io::Error) -> Outcome {
+    Outcome {
+        status,
+        trouble: Some(Trouble {
+            what: "no socket at",
+            address,
+            port,
+            why: error.kind(),
+        }),
+    }
+}
+
 /// Says on stderr how a run of the command ended that wasn't done, and gives the status to exit with.
-fn end(rt: &HostRuntime, command: Option<Command>, status: Status) -> ExitCode {
+fn end(rt: &HostRuntime, command: Option<Command>, ended: Outcome) -> ExitCode {
+    let Outcome { status, trouble } = ended;
+    let code = ExitCode::from(status.number());
+    if let Some(
+        Trouble {
+            what,
+            address,
+            port,
+            why,
+        },
+    ) = trouble
+    {
+        let address = Ipv4Addr::from(address);
+        let _ = eprintln!(rt; "agent: {status} ({what} {address} {port}: {why})");
+        return code;
+    }
     let _ = match status {
         Status::Done => Ok(()),
         Status::Usage => eprint!(rt; "agent: {status}\n{USAGE}"),
@@ -104,21 +187,239 @@ fn end(rt: &HostRuntime, command: Option<Command>, status: Status) -> ExitCode {
         }
         _ => eprintln!(rt; "agent: {status}"),
     };
-    ExitCode::from(status.number())
+    code
 }
 
 /// Prints these texts on stdout.
 fn tell(rt: &HostRuntime, text: &str, more: &str) -> ExitCode {
     match print!(rt; "{text}{more}") {
         Ok(()) => ExitCode::SUCCESS,
-        Err(_) => end(rt, None, Status::WriteFault),
+        Err(_) => end(rt, None, ended(Status::WriteFault)),
+    }
+}
+
+/// Runs the command that these words name, over these sockets and this dialer.
+fn run<R, S, K, L>(
+    rt: R,
+    alloc: Global,
+    random: RandomState,
+    words: &[String],
+    input: &mut S,
+    output: &mut K,
+    auth: UdpDatagrams,
+    acct: UdpDatagrams,
+    dialer: L,
+) -> Finish<SystemClock<R>, UdpDatagrams, L, ThreadCrew<R>>
+where
+    R: Threads + Wait + rt::Clock + Copy + Drop + Send + 'static,
+    S: Source,
+    K: Sink,
+    L: Dialer<In = TcpIn, Out = TcpOut<R>>,
+    requires { (auth.row ≡ 0) × (acct.row ≡ 0) × ((L.told dialer).row ≡ 0) }
+{
+    let world = World {
+        clock: SystemClock::new(rt),
+        auth,
+        acct,
+        dialer,
+        crew: ThreadCrew::new(alloc, rt, Vec::new(alloc)),
+    };
+    agent(&rt, alloc, random, words, input, output, world)
+}
+
+/// Looks at the last link until the home server has let it go, for a second at most, so that what the agent said last is
+/// read before the link is gone.
+fn take_leave<C: Clock + Drop, R: Drop>(trail: Trail<C, UdpDatagrams, TcpIn, TcpOut<R>>) {
+    let mut pairs = trail.links.into_vec();
+    let Some(
+        Pair {
+            mut link_in,
+            link_out: _,
+        },
+    ) = pairs.pop()
+    else {
+        return;
+    };
+    let mut buf = [0; 4096];
+    for _ in 0..10 {
+        match link_in.receive(&mut buf) {
+            LinkGot::Ended | LinkGot::Failed => return,
+            LinkGot::Bytes(_) | LinkGot::Nothing => {}
+        }
+    }
+}
+
+/// Serves at this address, by the home server at that one.
+fn serve<R, S, K>(
+    rt: R,
+    alloc: Global,
+    random: RandomState,
+    words: &[String],
+    input: &mut S,
+    output: &mut K,
+    sockets: (UdpDatagrams, UdpDatagrams),
+    peer: u32,
+    port: u16,
+) -> Outcome
+where
+    R: Net<Listener = TcpListener, Stream = TcpStream>
+        + Threads
+        + Wait
+        + rt::Clock
+        + Copy
+        + Drop
+        + Send
+        + 'static,
+    S: Source,
+    K: Sink,
+    requires { (sockets.0.row ≡ 0) × (sockets.1.row ≡ 0) }
+{
+    let (auth, acct) = sockets;
+    let dialer = TcpDialer::new(rt, peer, port);
+    let Finish {
+        status,
+        world,
+        trail,
+        home: _,
+    } = run(rt, alloc, random, words, input, output, auth, acct, dialer);
+    if let Some(trail) = trail {
+        take_leave(trail);
+    }
+    let World {
+        clock: _,
+        auth: _,
+        acct: _,
+        dialer,
+        crew: _,
+    } = world;
+    let refusal = match status {
+        Status::LinkFault => dialer.refusal(),
+        _ => None,
+    };
+    Outcome {
+        status,
+        trouble: refusal.map(|why| Trouble {
+            what: "no link to",
+            address: peer,
+            port,
+            why,
+        }),
+    }
+}
+
+/// Runs a command that wants no socket but this one.
+fn run_with<R, S, K, L>(
+    rt: R,
+    alloc: Global,
+    random: RandomState,
+    words: &[String],
+    input: &mut S,
+    output: &mut K,
+    socket: UdpDatagrams,
+    dialer: L,
+) -> Outcome
+where
+    R: Threads + Wait + rt::Clock + Copy + Drop + Send + 'static,
+    S: Source,
+    K: Sink,
+    L: Dialer<In = TcpIn, Out = TcpOut<R>> + Drop,
+    requires { (socket.row ≡ 0) × ((L.told dialer).row ≡ 0) }
+{
+    let Finish {
+        status,
+        world,
+        trail: _,
+        home: _,
+    } = run(
+        rt,
+        alloc,
+        random,
+        words,
+        input,
+        output,
+        socket,
+        UdpDatagrams::closed(),
+        dialer,
+    );
+    let World {
+        clock: _,
+        auth: _,
+        acct: _,
+        dialer: _,
+        crew: _,
+    } = world;
+    ended(status)
+}
+
+/// Opens the sockets that the words want, and runs their command.
+fn run_words<R, S, K>(
+    rt: R,
+    alloc: Global,
+    random: RandomState,
+    words: &[String],
+    input: &mut S,
+    output: &mut K,
+) -> Result<Outcome, Outcome>
+where
+    R: Net<Listener = TcpListener, Stream = TcpStream>
+        + Threads
+        + Wait
+        + rt::Clock
+        + Copy
+        + Drop
+        + Send
+        + 'static,
+    S: Source,
+    K: Sink,
+{
+    let socket_at = |address: u32, port: u16| {
+        UdpDatagrams::bind(&rt, address, port).map_err(|e| unopened(
+            Status::DatagramFault,
+            address,
+            port,
+            e,
+        ))
+    };
+    match places_of(words) {
+        Some(
+            Places::Serve {
+                address,
+                auth,
+                acct,
+                peer,
+                port,
+            },
+        ) => {
+            let sockets = (socket_at(address, auth)?, socket_at(address, acct)?);
+            Ok(serve(rt, alloc, random, words, input, output, sockets, peer, port))
+        }
+        Some(Places::Home { address, port }) => {
+            let accepter = TcpAccepter::bind(rt, address, port).map_err(|e| unopened(
+                Status::LinkFault,
+                address,
+                port,
+                e,
+            ))?;
+            let none = UdpDatagrams::closed();
+            Ok(run_with(rt, alloc, random, words, input, output, none, accepter))
+        }
+        // The system chooses where the packets of the client come from.
+        Some(Places::Nas { .. }) => {
+            let socket = socket_at(0, 0)?;
+            let none = TcpDialer::new(rt, 0, 0);
+            Ok(run_with(rt, alloc, random, words, input, output, socket, none))
+        }
+        None => {
+            let (socket, dialer) = (UdpDatagrams::closed(), TcpDialer::new(rt, 0, 0));
+            Ok(run_with(rt, alloc, random, words, input, output, socket, dialer))
+        }
     }
 }
 
 fn main(rt: HostRuntime) -> ExitCode {
     let words = match words_after_name(&rt) {
         Ok(words) => words,
-        Err(error) => return end(&rt, None, status_without_words(&error)),
+        Err(error) => return end(&rt, None, ended(status_without_words(&error))),
     };
     if let [word] = words.as_slice() {
         match word.as_str() {
@@ -133,14 +434,11 @@ fn main(rt: HostRuntime) -> ExitCode {
     };
     let mut input = ReaderSource::new(rt.reader());
     let mut output = WriterSink::new(io::writer(&rt));
-    let status = agent(
-        rt.alloc(),
-        random,
-        words.as_slice(),
-        &mut input,
-        &mut output,
-    );
-    end(&rt, command_of(words.as_slice()), status)
+    let words = words.as_slice();
+    match run_words(rt, rt.alloc(), random, words, &mut input, &mut output) {
+        Ok(ended) => end(&rt, command_of(words), ended),
+        Err(ended) => end(&rt, command_of(words), ended),
+    }
 }
 
 #[cfg(test)]

@@ -1,6 +1,0 @@
-use Rattle.agent_tool.proofs.ReplayLemmas.{bad-line}
-use Rattle.agent_tool.proofs.replay.ReplayWorkWork.too_long.Goals as goal
-
-pub returns : goal.returns
-returns c = λ lines octets replays long.
-    rw c.line_status.ensures (bad-line c.too_long.result lines octets replays.sound (c.too_long.ensures _ replays.reads octets long))

@@ -1,5 +1,0 @@
-use Rattle.agent_tool.proofs.ShowLemmas.{long-line}
-use Rattle.agent_tool.proofs.show.ShowWorkWork.too_long.Goals as goal
-
-pub returns : goal.returns
-returns c = λ lines octets shows long. long-line lines octets _ c.args.self.now shows c.number_after.ensures long

@@ -1,0 +1,53 @@
+-- How the commands `home` and `nas` end.
+use Rattle.std.specs.Prelude.{◌≡◌, ℕ, ◌≤◌, ◌↔◌, List, length, Option, Some, None, Ok, IsOk}
+use Rattle.std.specs.List.{AllByRecursion}
+use Rattle.wire_core.specs.Counts.{Rose}
+use Rattle.wire_devices.specs.Dialling.{Dialled, Dials}
+use Rattle.wire_devices.specs.Links.{Inlet, Outlet}
+use Rattle.wire_devices.specs.Sockets.{Socket}
+use Rattle.agent_status.specs.declared.status.Status.{Status}
+use Rattle.agent_status.specs.declared.status.Status.TheVariants.{DatagramFault}
+use Rattle.test_peers.specs.declared.users.User.{User}
+use Rattle.test_peers.specs.PacketLines.{packet_in}
+use Rattle.test_peers.specs.Users.{users_in}
+use Rattle.transcript.specs.Streams.{most_octets}
+use Rattle.transcript.specs.Words.{lines_of}
+use Rattle.text_commands.specs.WholeInput.{most_whole}
+use Rattle.peer_runs.specs.HomeRuns.{HomeBy, IsSound}
+use Rattle.peer_runs.specs.NasRuns.{NasEnds}
+use Rattle.peer_runs.specs.Until.{InTime, TimeIsOver}
+use Rattle.agent_server.specs.declared.trail.Pair.{Pair}
+
+-- the two ends of a link, where there is one
+abbrev pub link_of : {I O : Type 0} → Option (Pair I O) → Option (I × O)
+link_of None = None
+link_of (Some pair) = Some (pair.link_in, pair.link_out)
+
+module _ {I O : Type 0} (hears : I → Inlet) (speaks : O → Outlet) where
+  -- how a home server's run ends, where the input is told
+  abbrev pub HomeEnds : Status → Option (Pair I O) → ℕ → Option (List ℕ) → Option (List ℕ) → Dials → Dials → Option (List ℕ) → Option (List ℕ) → Option (List ℕ) → Option (List ℕ) → Type 0
+  HomeEnds status link millis told left dials dials' clock clock' before now =
+      (input : List ℕ) → told ≡ Some input
+      → HomeBy hears speaks status (link_of link) input left (Dialled (link_of link) dials dials') (InTime millis clock clock') (TimeIsOver millis clock clock') before now
+
+  -- the input is a list of users that is short enough, and no call on the link failed
+  pub record IsSoundHome (link : Option (Pair I O)) (told : Option (List ℕ)) : Type 0 where
+    pub input : List ℕ
+    pub users : List User
+    pub is_told : told ≡ Some input
+    pub read : users_in input ≡ Ok users
+    pub short : length input ≤ most_whole
+    pub sound : IsSound hears speaks (link_of link)
+
+-- How a client's run ends. A failed socket ends it where 16 receives in a row failed, and then only.
+pub record NasRan (status : Status) (address port millis : ℕ) (input left before now clock clock' : Option (List ℕ)) (s t : Socket) : Type 0 where
+  pub ends : NasEnds status (record { address = address; port = port }) millis input left before now clock clock' s t
+  pub failed : (status ≡ DatagramFault) ↔ (t.row ≡ 16)
+  pub rose : status ≡ DatagramFault → Rose s.faults t.faults
+
+-- each line of the input is a packet, and the input is short enough
+pub record TakesAll (told : Option (List ℕ)) : Type 0 where
+  pub input : List ℕ
+  pub is_told : told ≡ Some input
+  pub packets : AllByRecursion (λ line. IsOk (packet_in line)) (lines_of input)
+  pub short : length input ≤ most_octets

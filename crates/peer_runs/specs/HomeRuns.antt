@@ -1,0 +1,185 @@
+-- How a run of the home server ends: by what its link gave and was handed, and by what was written.
+use Rattle.std.specs.Prelude.{◌≡◌, ℕ, ◌<◌, ◌≤◌, ◌⊎◌, List, [], ◌∷◌, ◌++◌, length, take, flat_map, codes, decimal, Option, Some, None, Result, Ok, Err, unwrap_or}
+use Rattle.wire_core.specs.Counts.{Rose, one_more}
+use Rattle.wire_core.specs.Sink.{Appends}
+use Rattle.diameter_message.specs.declared.fault.FrameFault.{FrameFault}
+use Rattle.diameter_message.specs.declared.fault.MessageFault.{MessageFault}
+use Rattle.diameter_message.specs.Framing.{FramerParts, StandsFor, messages_of, stream_fault}
+use Rattle.diameter_message.specs.Message.{MessageParts, read_message}
+use Rattle.wire_devices.specs.Links.{Inlet, Outlet}
+use Rattle.wire_devices.specs.Telling.{Adds, TellsOnly}
+use Rattle.agent_status.specs.declared.status.Status.{Status}
+use Rattle.agent_status.specs.declared.status.Status.TheVariants.{Done, BadTranscript, ReadFault, WriteFault, LinkFault, OutOfMemory, TooLong}
+use Rattle.test_peers.specs.declared.users.User.{User}
+use Rattle.test_peers.specs.declared.fault.HomeFault.TheVariants.{BadLine}
+use Rattle.test_peers.specs.Answers.{answered}
+use Rattle.test_peers.specs.Users.{users_in}
+use Rattle.text_commands.specs.WholeInput.{TakenWhole, TakesNot}
+
+-- ---- messages
+
+-- the answer to a message, none where it is no message or an answer itself
+abbrev pub answer_to : List User → List ℕ → Option (List ℕ)
+answer_to users message = answered users (read_message message)
+
+-- its octets, none where there is no answer
+abbrev pub answer_octets : List User → List ℕ → List ℕ
+answer_octets users message = unwrap_or (answer_to users message) []
+
+-- the answers to these messages, one after another
+abbrev pub answers : List User → List (List ℕ) → List ℕ
+answers users messages = flat_map (answer_octets users) messages
+
+abbrev pub command_of : Result MessageParts MessageFault → ℕ
+command_of (Ok m) = m.header.command
+command_of (Err fault) = 0
+
+-- 'command N'
+abbrev pub command_text : ℕ → List ℕ
+command_text command = codes "command " ++ decimal command ++ 10 ∷ []
+
+abbrev pub line_for : Option (List ℕ) → ℕ → List ℕ
+line_for None command = []
+line_for (Some answer) command = command_text command
+
+-- the line of a message that is answered, N being its command
+abbrev pub command_line : List User → List ℕ → List ℕ
+command_line users message = line_for (answer_to users message) (command_of (read_message message))
+
+-- a line for each message that is answered
+abbrev pub command_lines : List User → List (List ℕ) → List ℕ
+command_lines users messages = flat_map (command_line users) messages
+
+-- ---- a link
+
+-- So many receives on the link were its end, so many failed, and so many sends failed.
+pub record Counted (ends receives sends : ℕ) (inlet : Inlet) (outlet : Outlet) : Type 0 where
+  pub ends_are : inlet.ends ≡ ends
+  pub failed_receives : inlet.faults ≡ receives
+  pub failed_sends : outlet.faults ≡ sends
+
+-- The link gave these octets. These messages were answered, and each answer has its line.
+pub record Answered (users : List User) (octets : List ℕ) (messages : List (List ℕ)) (inlet : Inlet) (outlet : Outlet) (before now : Option (List ℕ)) : Type 0 where
+  pub received : TellsOnly inlet.received octets
+  pub handed : TellsOnly outlet.handed (answers users messages)
+  pub written : Appends before now (command_lines users messages)
+
+-- Each message that the link gave was answered, and what comes after them shows this fault.
+pub record AnswersAll (users : List User) (inlet : Inlet) (outlet : Outlet) (before now : Option (List ℕ)) (fault : Option FrameFault) : Type 0 where
+  pub octets : List ℕ
+  pub answered : Answered users octets (messages_of octets) inlet outlet before now
+  pub shows : stream_fault octets ≡ fault
+
+-- The first messages that the link gave were answered. Of the answer to the next one, if there is one, so many octets were
+-- handed in, and after all of them so many of its line were written.
+pub record AnswersPart (users : List User) (inlet : Inlet) (outlet : Outlet) (before now : Option (List ℕ)) : Type 0 where
+  pub octets : List ℕ
+  pub front : List (List ℕ)
+  pub more : List (List ℕ)
+  pub answer_count : ℕ
+  pub line_count : ℕ
+  pub messages : messages_of octets ≡ front ++ more
+  pub received : TellsOnly inlet.received octets
+  pub handed : TellsOnly outlet.handed (answers users front ++ take answer_count (answers users (take 1 more)))
+  pub written : Appends before now (command_lines users front ++ take line_count (command_lines users (take 1 more)))
+  pub in_order : 0 < line_count → length (answers users (take 1 more)) ≤ answer_count
+
+-- how a run over a link ends while its time isn't over: with the link, with a fault of its stream, or with the first failure
+abbrev pub StopsBy : Status → List User → Inlet → Outlet → Option (List ℕ) → Option (List ℕ) → Type 0
+StopsBy Done users inlet outlet before now =
+    (AnswersAll users inlet outlet before now None × Counted 1 0 0 inlet outlet)
+    ⊎ ((fault : FrameFault) × AnswersAll users inlet outlet before now (Some fault) × Counted 0 0 0 inlet outlet)
+StopsBy LinkFault users inlet outlet before now =
+    (AnswersAll users inlet outlet before now None × Counted 0 1 0 inlet outlet)
+    ⊎ (AnswersPart users inlet outlet before now × Counted 0 0 1 inlet outlet)
+StopsBy WriteFault users inlet outlet before now = AnswersPart users inlet outlet before now × Counted 0 0 0 inlet outlet
+StopsBy OutOfMemory users inlet outlet before now = AnswersPart users inlet outlet before now × Counted 0 0 0 inlet outlet
+StopsBy status users inlet outlet before now = ⊥
+
+-- how a run over a link ends
+abbrev pub RunsBy : Status → List User → Type 0 → Type 0 → Inlet → Outlet → Option (List ℕ) → Option (List ℕ) → Type 0
+RunsBy status users in_time late inlet outlet before now =
+    (in_time × StopsBy status users inlet outlet before now)
+    ⊎ (late × (status ≡ Done) × AnswersAll users inlet outlet before now None × Counted 0 0 0 inlet outlet)
+
+-- ---- the whole run
+
+-- no users were read: of the list, or why it couldn't be taken
+abbrev pub ReadsNone : Status → List ℕ → Option (List ℕ) → Type 0
+ReadsNone (BadTranscript line reason) input left = TakenWhole input left × (users_in input ≡ Err (BadLine line reason))
+ReadsNone status input left = TakesNot status (Some input) left
+
+-- the users were read
+pub record Knows (users : List User) (input : List ℕ) (left : Option (List ℕ)) : Type 0 where
+  pub taken : TakenWhole input left
+  pub users_are : users_in input ≡ Ok users
+
+-- What was taken of the input, what the dial did once the users were read, what the link gave and was handed where one was
+-- made, and what was written, by the status.
+module _ {I O : Type 0} (hears : I → Inlet) (speaks : O → Outlet) where
+  abbrev pub HomeBy : Status → Option (I × O) → List ℕ → Option (List ℕ) → Type 0 → Type 0 → Type 0 → Option (List ℕ) → Option (List ℕ) → Type 0
+  HomeBy status None input left dialled in_time late before now =
+      (now ≡ before) × (ReadsNone status input left
+      ⊎ ((users : List User) × Knows users input left × dialled × (status ≡ LinkFault)))
+  HomeBy status (Some link) input left dialled in_time late before now =
+      (users : List User) × Knows users input left × dialled × RunsBy status users in_time late (hears link.0) (speaks link.1) before now
+
+  -- no call on the link failed
+  abbrev pub IsSound : Option (I × O) → Type 0
+  IsSound None = Unit {0}
+  IsSound (Some link) = ((hears link.0).faults ≡ 0) × ((speaks link.1).faults ≡ 0)
+
+-- the counts that rose, by the status: the faults of the source, and those of the sink
+abbrev pub HomeCounts : Status → ℕ → ℕ → ℕ → ℕ → Type 0
+HomeCounts ReadFault reads reads' writes writes' = Rose reads reads'
+HomeCounts WriteFault reads reads' writes writes' = Rose writes writes'
+HomeCounts status reads reads' writes writes' = Unit {0}
+
+-- ---- on the way
+
+-- with which status the list of users couldn't be read, by the faults of the source
+abbrev pub FailsToRead : Status → ℕ → ℕ → Type 0
+FailsToRead (BadTranscript line reason) reads reads' = Unit {0}
+FailsToRead ReadFault reads reads' = Rose reads reads'
+FailsToRead OutOfMemory reads reads' = Unit {0}
+FailsToRead TooLong reads reads' = Unit {0}
+FailsToRead status reads reads' = ⊥
+
+-- the faults of the end that an answer goes to, by the status if the answer ends the run
+abbrev pub FailsToAnswer : Status → Outlet → Outlet → Type 0
+FailsToAnswer LinkFault old new = new.faults ≡ one_more old.faults
+FailsToAnswer WriteFault old new = new.faults ≡ old.faults
+FailsToAnswer OutOfMemory old new = new.faults ≡ old.faults
+FailsToAnswer status old new = ⊥
+
+-- so many octets of an answer were handed in, and after all of them so many of its line were written
+pub record AnswersIn (answer line : List ℕ) (old new : Outlet) (before now : Option (List ℕ)) : Type 0 where
+  pub answer_count : ℕ
+  pub line_count : ℕ
+  pub handed : Adds old.handed new.handed (take answer_count answer)
+  pub written : Appends before now (take line_count line)
+  pub in_order : 0 < line_count → length answer ≤ answer_count
+
+-- what taking a message does, by the status if that ends the run
+abbrev pub Takes : Option Status → List ℕ → List ℕ → Outlet → Outlet → Option (List ℕ) → Option (List ℕ) → Type 0
+Takes None answer line old new before now = Adds old.handed new.handed answer × Appends before now line × (new.faults ≡ old.faults)
+Takes (Some status) answer line old new before now = FailsToAnswer status old new × AnswersIn answer line old new before now
+
+-- The framer was fed all that was received but this piece. What it gave was answered.
+pub record SoFar (users : List User) (piece : List ℕ) (framer : FramerParts) (inlet : Inlet) (outlet : Outlet) (before now : Option (List ℕ)) : Type 0 where
+  pub fed : List ℕ
+  pub given : List (List ℕ)
+  pub stands : StandsFor framer fed given
+  pub answered : Answered users (fed ++ piece) given inlet outlet before now
+  pub counted : Counted 0 0 0 inlet outlet
+
+-- The framer was fed all that was received, and each message of it was answered.
+pub record Rests (users : List User) (framer : FramerParts) (inlet : Inlet) (outlet : Outlet) (before now : Option (List ℕ)) : Type 0 where
+  pub all : AnswersAll users inlet outlet before now None
+  pub stands : StandsFor framer all.octets (messages_of all.octets)
+  pub counted : Counted 0 0 0 inlet outlet
+
+-- the run goes on, or ends with this status
+abbrev pub GoesOn : Option Status → List User → FramerParts → Inlet → Outlet → Option (List ℕ) → Option (List ℕ) → Type 0
+GoesOn None users framer inlet outlet before now = Rests users framer inlet outlet before now
+GoesOn (Some status) users framer inlet outlet before now = StopsBy status users inlet outlet before now

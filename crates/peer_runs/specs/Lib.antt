@@ -1,0 +1,4 @@
+pub mod Asking
+pub mod HomeRuns
+pub mod NasRuns
+pub mod Until

@@ -1,0 +1,12 @@
+use Rattle.std.proofs.Common.{[], ◌∷◌, ◌++◌}
+use Rattle.text_commands.proofs.TaskLemmas.{finish-err, finish-ok}
+use Rattle.text_commands.proofs.work.finish.Goals as goal
+
+pub returns-in-Ok-clause-finishes : goal.returns-in-Ok-clause-finishes
+returns-in-Ok-clause-finishes g c = λ lines took.
+    let (further, (text, adds, wrote)) = c.in-Ok.ensures.works lines took in
+    finish-ok g.W.Work.task c.close.result lines c.args.line.now text _ _ _ adds wrote (c.close.ensures.closes (lines ++ c.args.line.now ∷ []) further)
+
+pub returns-in-Err-clause-finishes : goal.returns-in-Err-clause-finishes
+returns-in-Err-clause-finishes g c = λ lines took.
+    finish-err g.W.Work.task c.in-Err.status lines c.args.line.now _ _ (c.in-Err.ensures.works lines took)
