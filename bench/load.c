@@ -1,0 +1,164 @@
+/* Sends logins to a RADIUS server, so many in flight at once, for so many seconds, and says how many were answered.
+ *
+ *     load ADDRESS PORT SECRET IN_FLIGHT SECONDS [PID]
+ *
+ * Each request is a new one: another authenticator, and the password nemo/arctangent hidden under it (RFC 2865, section
+ * 5.2). One that isn't answered within two seconds is counted as lost and takes its place anew. Where PID is given, the
+ * processor time of that process over the run is told, too. One line a second tells the answers of that second.
+ *
+ * cc -O2 -o load load.c -lcrypto
+ */
+#include <arpa/inet.h>
+#include <openssl/evp.h>
+#include <poll.h>
+#include <stdint.h>
+#include <stdio.h>
+#include <stdlib.h>
+#include <string.h>
+#include <sys/random.h>
+#include <sys/socket.h>
+#include <time.h>
+#include <unistd.h>
+
+enum { IDENTIFIERS = 256, MOST_SOCKETS = 64, PATIENCE = 2000000 };
+
+struct pending {
+    int waits;
+    int64_t sent;
+};
+
+struct door {
+    int socket;
+    int used;
+    struct pending pending[IDENTIFIERS];
+};
+
+static struct door doors[MOST_SOCKETS];
+static const char *secret;
+static int64_t answered, accepted, lost, spent, slowest;
+
+static int64_t now(void) {
+    struct timespec t;
+    clock_gettime(CLOCK_MONOTONIC, &t);
+    return (int64_t)t.tv_sec * 1000000 + t.tv_nsec / 1000;
+}
+
+/* The processor time of a process in microseconds. */
+static int64_t processor_time(const char *pid) {
+    char path[64], text[1024];
+    long user = 0, kernel = 0;
+    snprintf(path, sizeof path, "/proc/%s/stat", pid);
+    FILE *file = fopen(path, "r");
+    if (!file) return -1;
+    size_t count = fread(text, 1, sizeof text - 1, file);
+    fclose(file);
+    text[count] = 0;
+    char *rest = strrchr(text, ')');
+    if (!rest || sscanf(rest + 2, "%*c %*d %*d %*d %*d %*d %*u %*u %*u %*u %*u %ld %ld", &user, &kernel) != 2) return -1;
+    return (user + kernel) * (1000000 / sysconf(_SC_CLK_TCK));
+}
+
+static void digest(const uint8_t *first, size_t first_length, const uint8_t *second, size_t second_length, uint8_t *out) {
+    static EVP_MD_CTX *context;
+    if (!context) context = EVP_MD_CTX_new();
+    EVP_DigestInit_ex(context, EVP_md5(), NULL);
+    EVP_DigestUpdate(context, first, first_length);
+    EVP_DigestUpdate(context, second, second_length);
+    EVP_DigestFinal_ex(context, out, NULL);
+}
+
+static void send_request(struct door *door, int identifier) {
+    uint8_t packet[64] = {1, (uint8_t)identifier, 0, 0}, mask[16];
+    static const char password[16] = "arctangent";
+    size_t length = 20;
+    if (getrandom(packet + 4, 16, 0) != 16) exit(1);
+    memcpy(packet + length, "\x01\x06nemo", 6);
+    length += 6;
+    packet[length++] = 2;
+    packet[length++] = 18;
+    digest((const uint8_t *)secret, strlen(secret), packet + 4, 16, mask);
+    for (int i = 0; i < 16; i++) packet[length++] = (uint8_t)password[i] ^ mask[i];
+    memcpy(packet + length, "\x05\x06\x00\x00\x00\x03", 6);
+    length += 6;
+    packet[3] = (uint8_t)length;
+    door->pending[identifier].waits = 1;
+    door->pending[identifier].sent = now();
+    send(door->socket, packet, length, 0);
+}
+
+static void take_replies(struct door *door, int64_t end) {
+    uint8_t reply[4096];
+    for (int k = 0; k < IDENTIFIERS; k++) {
+        ssize_t length = recv(door->socket, reply, sizeof reply, MSG_DONTWAIT);
+        if (length < 20) return;
+        struct pending *pending = &door->pending[reply[1]];
+        if (!pending->waits) continue;
+        int64_t moment = now(), took = moment - pending->sent;
+        pending->waits = 0;
+        answered++;
+        accepted += reply[0] == 2;
+        spent += took;
+        if (took > slowest) slowest = took;
+        if (moment < end) send_request(door, reply[1]);
+    }
+}
+
+static void send_lost_anew(int count, int64_t moment) {
+    for (int d = 0; d < count; d++)
+        for (int i = 0; i < doors[d].used; i++)
+            if (doors[d].pending[i].waits && moment - doors[d].pending[i].sent > PATIENCE) {
+                lost++;
+                send_request(&doors[d], i);
+            }
+}
+
+static int open_doors(const char *address, int port, int in_flight) {
+    int count = 0;
+    struct sockaddr_in to = {.sin_family = AF_INET, .sin_port = htons((uint16_t)port)};
+    inet_pton(AF_INET, address, &to.sin_addr);
+    /* At most half of the identifiers of a socket wait at once, so that one comes again late. */
+    for (int left = in_flight; left > 0 && count < MOST_SOCKETS; count++) {
+        int size = 4 << 20;
+        doors[count].used = left < 128 ? left : 128;
+        left -= doors[count].used;
+        doors[count].socket = socket(AF_INET, SOCK_DGRAM, 0);
+        setsockopt(doors[count].socket, SOL_SOCKET, SO_RCVBUF, &size, sizeof size);
+        if (connect(doors[count].socket, (struct sockaddr *)&to, sizeof to)) exit(1);
+    }
+    return count;
+}
+
+int main(int argc, char **argv) {
+    if (argc < 6) {
+        fprintf(stderr, "usage: load ADDRESS PORT SECRET IN_FLIGHT SECONDS [PID]\n");
+        return 1;
+    }
+    secret = argv[3];
+    int in_flight = atoi(argv[4]);
+    int count = open_doors(argv[1], atoi(argv[2]), in_flight);
+    struct pollfd polled[MOST_SOCKETS];
+    int64_t used = argc > 6 ? processor_time(argv[6]) : -1;
+    int64_t begin = now(), end = begin + atoll(argv[5]) * 1000000, second = begin + 1000000, before = 0;
+    for (int d = 0; d < count; d++) {
+        polled[d] = (struct pollfd){.fd = doors[d].socket, .events = POLLIN};
+        for (int i = 0; i < doors[d].used; i++) send_request(&doors[d], i);
+    }
+    for (int64_t moment = begin; moment < end; moment = now()) {
+        poll(polled, (nfds_t)count, 100);
+        for (int d = 0; d < count; d++)
+            if (polled[d].revents) take_replies(&doors[d], end);
+        if (moment >= second) {
+            printf("second %lld\n", (long long)(answered - before));
+            before = answered;
+            second += 1000000;
+            send_lost_anew(count, moment);
+        }
+    }
+    double seconds = (double)(now() - begin) / 1e6;
+    printf("in flight %d: %.0f logins a second, %lld answered, %lld accepted, %lld lost, mean %.0f us, slowest %lld us\n", in_flight,
+           (double)answered / seconds, (long long)answered, (long long)accepted, (long long)lost,
+           answered ? (double)spent / (double)answered : 0, (long long)slowest);
+    if (used >= 0)
+        printf("processor time %.1f us a login\n", answered ? (double)(processor_time(argv[6]) - used) / (double)answered : 0);
+    return 0;
+}
