@@ -1,4 +1,4 @@
--- What an Access-Request has to authenticate by, found in one pass.
+-- Internal: what an Access-Request has to authenticate by, found in one pass.
 use Rattle.std.specs.Prelude.{◌+◌, nat_lt, false, ◌&&◌, ◌||◌, List, Option, count_by, if◌then◌else◌}
 use Rattle.std.specs.Option.{option_or}
 use Rattle.std.specs.List.{list_any}

@@ -1,6 +1,6 @@
 //! Numbers of attributes.
 
-// Attributes (RFC 2865, section 5; RFC 3579, section 3.1).
+/// Attributes (RFC 2865, section 5; RFC 3579, section 3.1).
 pub(crate) const USER_NAME: u8 = 1;
 
 pub(crate) const USER_PASSWORD: u8 = 2;

@@ -19,7 +19,7 @@ use wire_core::NoMemory;
 /// The most octets that hide a password (RFC 2865, section 5.2).
 const MOST_HIDDEN: usize = 128;
 
-// The CHAP-Algorithm of RFC 4005, section 5.5.
+/// The CHAP-Algorithm of RFC 4005, section 5.5.
 const CHAP_WITH_MD5: u32 = 5;
 
 /// Puts the password that these octets hide under the secret and the authenticator.

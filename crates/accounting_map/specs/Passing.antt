@@ -1,4 +1,4 @@
--- What the attributes of an Accounting-Request give, in one pass that keeps what it saw.
+-- Internal: what the attributes of an Accounting-Request give, in one pass that keeps what it saw.
 use Rattle.std.specs.Prelude.{ℕ, Bool, false, true, ◌==◌, List, [], ◌∷◌, if◌then◌else◌}
 use Rattle.wire_core.specs.Numbers.{u64}
 use Rattle.radius_packet.specs.Packet.{AttributeParts}

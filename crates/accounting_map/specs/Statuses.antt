@@ -1,4 +1,4 @@
--- The Acct-Status-Types of a packet, one attribute after another.
+-- Internal: the Acct-Status-Types of a packet, one attribute after another.
 use Rattle.std.specs.Prelude.{ℕ, if◌then◌else◌}
 use Rattle.radius_packet.specs.Packet.{AttributeParts}
 use Rattle.accounting_map.specs.Numbers.{number_in}

@@ -1,6 +1,6 @@
 //! Numbers of attributes.
 
-// RFC 2866, section 5, and RFC 2869, section 5.
+/// RFC 2866, section 5, and RFC 2869, section 5.
 pub(crate) const ACCT_STATUS_TYPE: u8 = 40;
 
 pub(crate) const ACCT_INPUT_OCTETS: u8 = 42;

@@ -8,7 +8,7 @@ use crate::numbers::{first_number, first_value};
 use crate::statuses::{START, STOP};
 use radius_packet::Packet;
 
-// Accounting-Record-Types (RFC 6733, section 9.8.1).
+/// Accounting-Record-Types (RFC 6733, section 9.8.1).
 const START_RECORD: u32 = 2;
 
 const INTERIM_RECORD: u32 = 3;

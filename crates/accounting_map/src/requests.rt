@@ -39,7 +39,7 @@ use std::alloc::Global;
 use translation::{Direction, Seen, put_common, put_names};
 use wire_core::{NoMemory, Octets};
 
-// The Origin-AAA-Protocol of RFC 4005, section 9.3.6.
+/// The Origin-AAA-Protocol of RFC 4005, section 9.3.6.
 const RADIUS: u32 = 1;
 
 /// What stood before an attribute.

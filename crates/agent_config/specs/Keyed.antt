@@ -1,4 +1,4 @@
--- Entries by address.
+-- Internal: entries by address.
 use Rattle.std.specs.Prelude.{◌≡◌, ℕ, List, [], ◌∷◌}
 use Rattle.agent_config.specs.declared.client.Client.{Client}
 

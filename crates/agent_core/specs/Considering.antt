@@ -1,4 +1,4 @@
--- What a datagram leads to, before anything is changed.
+-- Internal: what a datagram leads to, before anything is changed.
 use Rattle.std.specs.Prelude.{◌≡◌, ℕ, ◌<◌, Bool, length, List, None, Result}
 use Rattle.radius_packet.specs.declared.reasons.Reason.{Reason}
 use Rattle.pending_table.specs.declared.key.Key.{Key}

@@ -1,4 +1,4 @@
--- The rule: what goes out for an input, by the whole history before it ([Outputs]).
+-- The rule: what goes out for an input, by the whole history before it.
 use Rattle.std.specs.Prelude.{ℕ, Bool, false, ◌==◌, ◌&&◌, max, List, [], ◌∷◌, ◌++◌, length, find, map, option_map, option_to_list, Option, Some, None, Result, Ok, Err, if◌then◌else◌}
 use Rattle.std.specs.List.{enumerate_from}
 use Rattle.radius_packet.specs.declared.reasons.Reason.{Reason}
@@ -149,7 +149,7 @@ command_of Start = 271
 command_of Interim = 271
 command_of Stop = 271
 
--- [AnswerOf], by the kind of the request
+-- what an answer comes to, by the kind of the request
 abbrev pub outcome : Kind2 → Client → Kept → MessageParts → Numbers → Outcome
 outcome Access client kept message numbers = access.outcome services.Nasreq client kept message numbers
 outcome Eap client kept message numbers = access.outcome services.Eap client kept message numbers
@@ -165,7 +165,7 @@ abbrev pub is_number : ℕ → Option ℕ → Bool
 is_number hop None = false
 is_number hop (Some n) = n == hop
 
--- [Matched]: the request was last sent on this link with the answer's hop, and the answer is one to it
+-- the request was last sent on this link with the answer's hop, and the answer is one to it
 abbrev pub matches : List Place → Header → Taking → Bool
 matches ps h t = is_number h.hop (number ps t) && h.command == command_of t.kept.kind
 

@@ -1,4 +1,4 @@
--- [LinkAt]: what is known of the link to the home server (profile).
+-- What is known of the link to the home server (profile).
 use Rattle.std.specs.Prelude.{ℕ, ◌%◌, Option, None}
 use Rattle.peer_machine.specs.declared.Phase.{Phase}
 use Rattle.peer_machine.specs.declared.Phase.TheVariants.{Closed}

@@ -1,4 +1,4 @@
--- What an answer leads to, before anything is changed.
+-- Internal: what an answer leads to, before anything is changed.
 use Rattle.std.specs.Prelude.{◌≡◌, ℕ, Bool, List, Option, IsSome, slice_get}
 use Rattle.diameter_message.specs.Message.{MessageParts}
 use Rattle.pending_table.specs.declared.entry.Entry.{Entry}

@@ -48,12 +48,12 @@ pub record Place : Type 0 where
 -- The places before an input are a list, the newest first: what is earlier than a place is the rest of the list after it,
 -- and its number is the length of that rest.
 
--- [History]: the greatest moment so far
+-- the greatest moment so far
 abbrev pub now : List Place → ℕ
 now [] = 0
 now (p ∷ ps) = p.moment
 
--- ---- [LinkAt]
+-- ---- the link
 
 -- the link before an input: none began at first
 abbrev pub link : List Place → LinkAt
@@ -76,7 +76,7 @@ is_serving Closing = false
 abbrev pub opens : Phase → Phase → Bool
 opens before after = not (is_serving before) && is_serving after
 
--- ---- [Taken] and [Matched]
+-- ---- the requests that were taken up
 
 -- the requests that were taken up, in the order of taking
 abbrev pub with_taking : Option Taking → List Taking → List Taking

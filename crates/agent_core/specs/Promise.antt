@@ -1,4 +1,4 @@
--- When a core may be: its settings are in limits, and it stands for some history of octets.
+-- Internal: when a core may be: its settings are in limits, and it stands for some history of octets.
 use Rattle.std.specs.Prelude.{ℕ, ◌<◌, ◌^◌, List, IfSome, slice_index}
 use Rattle.std.specs.List.{AllByRecursion}
 use Rattle.agent_config.specs.Config.{InLimits}

@@ -1,4 +1,4 @@
--- [Rooms]: the numbers before an input, and what a refusal looks at (profile).
+-- The numbers before an input, and what a refusal looks at (profile).
 use Rattle.std.specs.Prelude.{ℕ, ◌+◌, Bool, nat_lt, ◌==◌, ◌||◌, max, not, List, length, Option, Some, None, if◌then◌else◌}
 use Rattle.radius_packet.specs.declared.reasons.Reason.{Reason}
 use Rattle.radius_packet.specs.declared.reasons.Reason.TheVariants.{LinkDown, Spent, Full, Backlog}

@@ -1,4 +1,4 @@
--- A route, without where it lies in memory.
+-- Internal: a route, without where it lies in memory.
 use Rattle.std.specs.Option.{option_copied}
 use Rattle.session_carrier.specs.Route.{RouteParts}
 use Rattle.agent_core.specs.declared.requests.OwnRoute.{OwnRoute}

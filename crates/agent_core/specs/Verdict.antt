@@ -1,4 +1,4 @@
--- [Verdict]: whether a datagram is a request, and of what kind (RFC 2865, sections 3 to 5; RFC 2866; RFC 3579; profile).
+-- Whether a datagram is a request, and of what kind (RFC 2865, sections 3 to 5; RFC 2866; RFC 3579; profile).
 use Rattle.std.specs.Prelude.{ℕ, ◌==◌, List, Option, Some, None, Result, Ok, Err, slice_index, if◌then◌else◌}
 use Rattle.radius_packet.specs.Packet.{PacketParts, packet_text, read_packet}
 use Rattle.radius_packet.specs.declared.reasons.Via.{Via}

@@ -1,4 +1,4 @@
--- A request, without where it lies in memory, and what is known of it.
+-- Internal: a request, without where it lies in memory, and what is known of it.
 use Rattle.std.specs.Prelude.{◌≡◌, ℕ, ◌≤◌, length, slice_get, Result, Ok, Err, Some}
 use Rattle.std.specs.List.{AllByRecursion}
 use Rattle.radius_packet.specs.Packet.{AttributeParts, PacketParts}

@@ -15,7 +15,7 @@ use peer_machine::{PeerInput, PeerOutput, Phase};
 use std::alloc::Global;
 use wire_core::NoMemory;
 
-// What the link itself says to one input: a message, that it is closed, and that nothing is done.
+/// What the link itself says to one input: a message, that it is closed, and that nothing is done.
 const LINK_OUTPUTS: usize = 3;
 
 /// Puts an output, where there is one, into room that is there.

@@ -13,7 +13,7 @@ use std::hash::RandomState;
 use std::test::Fail;
 use wire_core::{NoMemory, Octets};
 
-// A request with a password (RFC 2865, section 7.1), and one without.
+/// A request with a password (RFC 2865, section 7.1), and one without.
 const PASSWORD: &[u8] = b"\
 \x01\0\0\x38\x0f\x40\x3f\x94\x73\x97\x80\x57\xbd\x83\xd5\xcb\x98\xf4\x22\x7a\
 \x01\x06\
@@ -30,7 +30,7 @@ nemo\
 nas1\
 \x05\x06\0\0\0\x03";
 
-// The home server's answer to the first request of a core, and the replies that either request then gets.
+/// The home server's answer to the first request of a core, and the replies that either request then gets.
 const ANSWER: &[u8] = b"\
 \x01\0\0\x78\x40\0\x01\x09\0\0\0\x01\0\0\0\0\0\x70\0\0\
 \0\0\x01\x07\x40\0\0\x19\
@@ -57,7 +57,7 @@ const PLAIN_REPLY: &[u8] = b"\
 \x19\x1c\
 Diameter/agent.example;7;0";
 
-// The two identifiers of a request that is a core's first, and of its second.
+/// The two identifiers of a request that is a core's first, and of its second.
 const FIRST: &[u8] = b"\0\0\0\0\0\x70\0\0";
 
 const SECOND: &[u8] = b"\0\0\0\x01\0\x70\0\x01";
@@ -75,7 +75,7 @@ fn nas(alloc: Global) -> Result<Client, NoMemory> {
     })
 }
 
-// Settings with one client. They are in limits.
+/// Settings with one client. They are in limits.
 fn settings(alloc: Global, patience: u64) -> Result<Config, NoMemory>
     ensures { IfOk result InLimits }
 {
@@ -101,12 +101,12 @@ fn settings(alloc: Global, patience: u64) -> Result<Config, NoMemory>
     Ok(config)
 }
 
-// A core with one client, whose link never began.
+/// A core with one client, whose link never began.
 fn closed_core(alloc: Global, random: RandomState, patience: u64) -> Result<Core, NoMemory> {
     Core::new(alloc, random, settings(alloc, patience)?)
 }
 
-// A core with one client, whose link is ready.
+/// A core with one client, whose link is ready.
 fn ready_core(alloc: Global, random: RandomState, patience: u64) -> Result<Core, NoMemory> {
     let mut core = closed_core(alloc, random, patience)?;
     core.step(alloc, 0, &Input::Ready)?;
@@ -130,14 +130,14 @@ fn plain(alloc: Global) -> Result<Input, NoMemory> {
     datagram(alloc, PLAIN)
 }
 
-// The home server's answer to the first request.
+/// The home server's answer to the first request.
 fn answer(alloc: Global) -> Result<Input, NoMemory> {
     Ok(Input::Message {
         octets: Octets::copy(alloc, ANSWER)?,
     })
 }
 
-// Which message is sent, by its two identifiers, and with flag T or without.
+/// Which message is sent, by its two identifiers, and with flag T or without.
 fn sent(octets: &[u8]) -> &'static str {
     let numbers = octets.get(12..20).unwrap_or(&[]);
     let is_first = numbers == FIRST;
@@ -168,7 +168,7 @@ fn dropped(reason: Reason) -> &'static str {
     }
 }
 
-// The one output of a step, in words.
+/// The one output of a step, in words.
 fn step(
     core: &mut Core,
     alloc: Global,
@@ -221,7 +221,7 @@ fn octets_that_are_no_message_are_dropped(rt: HostRuntime) -> Result<(), Fail> {
     Ok(())
 }
 
-// Why a new request isn't taken up on a link that serves, once it sent so many requests and so many sessions began.
+/// Why a new request isn't taken up on a link that serves, once it sent so many requests and so many sessions began.
 fn refusal_at(
     alloc: Global,
     random: RandomState,

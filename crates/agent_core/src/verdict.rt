@@ -20,7 +20,7 @@ pub(crate) struct Request<'a> {
     pub(crate) packet: Packet<'a>,
 }
 
-// Codes of packets (RFC 2865, section 3).
+/// Codes of packets (RFC 2865, section 3).
 const ACCESS_REQUEST: u8 = 1;
 
 const ACCOUNTING_REQUEST: u8 = 4;

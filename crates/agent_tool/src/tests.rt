@@ -56,7 +56,7 @@ fn words_of(alloc: Global, line: &str) -> Result<Vec<String>, Fail> {
     Ok(words)
 }
 
-// One word is a command's, and another isn't.
+/// One word is a command's, and another isn't.
 #[test]
 fn words_of_commands(rt: HostRuntime) -> Result<(), Fail> {
     let random = RandomState::new(&rt)?;

@@ -1,4 +1,4 @@
--- The octets of an image.
+-- Internal: the octets of an image.
 use Rattle.std.specs.Prelude.{ℕ, List}
 use Rattle.attribute_table.specs.declared.image.Held.{Held}
 use Rattle.attribute_table.specs.declared.image.Held.TheVariants.{Borrowed, Made}

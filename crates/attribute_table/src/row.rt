@@ -43,7 +43,7 @@ pub struct Row {
     pub reject: bool,
 }
 
-// The ways of a row.
+/// The ways of a row.
 const A: u8 = 1;
 
 const C: u8 = 2;

@@ -1,4 +1,4 @@
--- What a reader of one AVP answers.
+-- Internal: what a reader of one AVP answers.
 use Rattle.std.specs.Prelude.{◌≡◌, ℕ, ◌≤◌, List, length, Result, Ok, Err}
 use Rattle.diameter_avp.specs.declared.avp.Avp.{Avp}
 use Rattle.diameter_avp.specs.declared.fault.AvpFault.{AvpFault}

@@ -5,19 +5,19 @@ ghost use Rattle.diameter_avp.specs.Writer.{with_avp};
 use super::*;
 use std::test::Fail;
 
-// The AVPs of an AA-Answer, and one of vendor 9 without the M flag.
+/// The AVPs of an AA-Answer, and one of vendor 9 without the M flag.
 const AVPS: &[u8] = b"\x00\x00\x01\x07\x40\x00\x00\x19agent.example;7;0\x00\x00\x00\
     \x00\x00\x01\x02\x40\x00\x00\x0c\x00\x00\x00\x01\
     \x00\x00\x01\x0c\x40\x00\x00\x0c\x00\x00\x07\xd1\
     \x00\x00\x00\x01\x80\x00\x00\x0f\x00\x00\x00\x09abc\x00";
 
-// A Failed-AVP (RFC 6733, section 7.5) that holds a Vendor-Specific-Application-Id (section 6.11).
+/// A Failed-AVP (RFC 6733, section 7.5) that holds a Vendor-Specific-Application-Id (section 6.11).
 const GROUPS: &[u8] = b"\x00\x00\x01\x17\x40\x00\x00\x28\
     \x00\x00\x01\x04\x40\x00\x00\x20\
     \x00\x00\x01\x0a\x40\x00\x00\x0c\x00\x00\x28\xaf\
     \x00\x00\x01\x02\x40\x00\x00\x0c\x01\x00\x00\x16";
 
-// A group inside a group, as callers write it.
+/// A group inside a group, as callers write it.
 fn put_failed_application(
     writer: &mut AvpWriter,
     vendor: &[u8],
@@ -36,7 +36,7 @@ fn put_failed_application(
     Ok(())
 }
 
-// The code of the last AVP, or the list's fault: a loop over a list as callers write it.
+/// The code of the last AVP, or the list's fault: a loop over a list as callers write it.
 fn last_code(octets: &[u8]) -> Result<u32, AvpFault>
     ensures { result
         ≡ unless_fault (avps_fault octets.now) (fold (λ _ a. a.code) 0 (readable_avps octets.now)) }

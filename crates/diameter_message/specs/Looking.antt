@@ -1,4 +1,4 @@
--- What a look at the octets that are left finds.
+-- Internal: what a look at the octets that are left finds.
 use Rattle.std.specs.Prelude.{◌≡◌, ℕ, ◌≤◌, List, length, take}
 use Rattle.diameter_message.specs.declared.framer.Look.{Look}
 use Rattle.diameter_message.specs.declared.framer.Look.TheVariants.{Whole, Part, Broken}

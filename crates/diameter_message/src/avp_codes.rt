@@ -1,6 +1,6 @@
 //! AVP Codes, by the names of the RFCs.
 
-// RFC 6733, section 4.5; its AVPs below 256 are those of RADIUS (RFC 2865).
+/// RFC 6733, section 4.5; its AVPs below 256 are those of RADIUS (RFC 2865).
 pub const CLASS: u32 = 25;
 
 pub const SESSION_TIMEOUT: u32 = 27;
@@ -43,7 +43,7 @@ pub const ACCOUNTING_RECORD_TYPE: u32 = 480;
 
 pub const ACCOUNTING_RECORD_NUMBER: u32 = 485;
 
-// RFC 4005, sections 5 to 9.
+/// RFC 4005, sections 5 to 9.
 pub const USER_PASSWORD: u32 = 2;
 
 pub const STATE: u32 = 24;
@@ -70,5 +70,5 @@ pub const CHAP_RESPONSE: u32 = 405;
 
 pub const ORIGIN_AAA_PROTOCOL: u32 = 408;
 
-// RFC 4072, section 4.1.
+/// RFC 4072, section 4.1.
 pub const EAP_PAYLOAD: u32 = 462;

@@ -13,7 +13,7 @@ use std::process::Abort;
 use std::test::Fail;
 use wire_core::{NoMemory, Octets};
 
-// A message written through the writer of its AVPs, as callers write it.
+/// A message written through the writer of its AVPs, as callers write it.
 fn watchdog(
     alloc: Global,
     header: Header,
@@ -32,7 +32,7 @@ fn watchdog(
     Ok(writer.finish())
 }
 
-// A message written anew from its parts, unless it has a fault.
+/// A message written anew from its parts, unless it has a fault.
 fn rewritten(alloc: Global, octets: &[u8]) -> Result<Option<Octets>, WriteFault> {
     let Ok(message) = parse(octets) else {
         return Ok(None);
@@ -200,8 +200,8 @@ fn reads_a_flag_that_is_clear(rt: HostRuntime) {
     }
 }
 
-// Gives a framer a piece, and compares the messages that come of it with those that are awaited,
-// from a place on. The answer is the place of the next one.
+/// Gives a framer a piece, and compares the messages that come of it with those that are awaited,
+/// from a place on. The answer is the place of the next one.
 fn feed_and_compare(
     rt: &impl Abort,
     framer: &mut Framer,
@@ -277,7 +277,7 @@ fn ends_a_message_with_a_later_piece(rt: HostRuntime) -> Result<(), Fail> {
     Ok(())
 }
 
-// A message that is sent again, unless it can't be parsed.
+/// A message that is sent again, unless it can't be parsed.
 fn sent_again(alloc: Global, octets: &[u8], hop: u32) -> Result<Option<Octets>, NoMemory> {
     match parse(octets) {
         Ok(_) => Ok(Some(again(alloc, octets, hop)?)),
@@ -312,7 +312,7 @@ fn sends_again(rt: HostRuntime) -> Result<(), Fail> {
     Ok(())
 }
 
-// A watchdog request with a name of its product, of AVPs that have room.
+/// A watchdog request with a name of its product, of AVPs that have room.
 fn watchdog_with_room(alloc: Global, header: Header) -> Result<Octets, NoMemory>
     requires { header.command < 2 ^ 24 }
 {
@@ -342,7 +342,7 @@ fn writes_plain_avps(rt: HostRuntime) -> Result<(), Fail> {
     Ok(())
 }
 
-// A Result-Code of the vendor 0, one of three octets, 4001, 2001, a Session-Id of 17 octets, and one octet more.
+/// A Result-Code of the vendor 0, one of three octets, 4001, 2001, a Session-Id of 17 octets, and one octet more.
 const MIXED: &[u8] = b"\x00\x00\x01\x0c\xc0\x00\x00\x10\x00\x00\x00\x00\x00\x00\x03\xe9\
     \x00\x00\x01\x0c\x40\x00\x00\x0b\x00\x03\xe9\x00\
     \x00\x00\x01\x0c\x40\x00\x00\x0c\x00\x00\x0f\xa1\

@@ -1,4 +1,4 @@
--- What the attributes of an Access-Request give, in one pass that keeps what it saw.
+-- Internal: what the attributes of an Access-Request give, in one pass that keeps what it saw.
 use Rattle.std.specs.Prelude.{Bool, true, false, List, [], ◌∷◌, if◌then◌else◌}
 use Rattle.radius_packet.specs.Packet.{PacketParts, AttributeParts}
 use Rattle.diameter_avp.specs.Avps.{AvpParts}

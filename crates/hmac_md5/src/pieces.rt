@@ -9,7 +9,7 @@ use md5::{Digest, Md5};
 
 const BLOCK: usize = 64;
 
-// A key as one block of the hash.
+/// A key as one block of the hash.
 fn block_of(key: &[u8]) -> [u8; BLOCK]
     ensures { result ≡ key_block key.now }
 {
@@ -22,7 +22,7 @@ fn block_of(key: &[u8]) -> [u8; BLOCK]
     block
 }
 
-// A block with each octet xor `pad`.
+/// A block with each octet xor `pad`.
 fn masked(block: &[u8; BLOCK], pad: u8) -> [u8; BLOCK]
     ensures { result ≡ map (λ x. bit_xor x pad) block.now }
 {
@@ -33,7 +33,7 @@ fn masked(block: &[u8; BLOCK], pad: u8) -> [u8; BLOCK]
     masked
 }
 
-// A hash that has taken the masked block.
+/// A hash that has taken the masked block.
 fn padded(block: &[u8; BLOCK], pad: u8) -> Md5
     ensures { Holds result (map (λ x. bit_xor x pad) block.now) }
 {

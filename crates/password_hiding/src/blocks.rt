@@ -9,7 +9,7 @@ use md5::{Digest, Md5};
 /// The octets of a block.
 pub const BLOCK: usize = 16;
 
-// The block at a place.
+/// The block at a place.
 fn block_at(octets: &[u8], place: usize) -> [u8; BLOCK]
     requires { place + 16 ≤ length octets.now }
     ensures { result ≡ take 16 (drop place octets.now) }
@@ -19,7 +19,7 @@ fn block_at(octets: &[u8], place: usize) -> [u8; BLOCK]
     block
 }
 
-// Changes a block by xor with the MD5 of the secret and the octets before it.
+/// Changes a block by xor with the MD5 of the secret and the octets before it.
 fn mask_block(secret: &[u8], before: &[u8; BLOCK], block: &mut [u8])
     requires { length block.old ≡ 16 }
     ensures { block.new ≡ xor_each block.old (md5 (secret.now ++ before.now)) }
@@ -33,7 +33,7 @@ fn mask_block(secret: &[u8], before: &[u8; BLOCK], block: &mut [u8])
     }
 }
 
-// The same for the block at a place.
+/// The same for the block at a place.
 fn mask_at(secret: &[u8], before: &[u8; BLOCK], octets: &mut [u8], place: usize)
     requires { place + 16 ≤ length octets.old }
     ensures { octets.new ≡ take place octets.old ++ xor_each (take 16 (drop place octets.old)) (md5 (secret.now ++ before.now)) ++ drop (place + 16) octets.old }

@@ -52,7 +52,7 @@ impl Hidden {
     }
 }
 
-// The least length of hidden octets that has room for so many.
+/// The least length of hidden octets that has room for so many.
 fn length_with_padding(length: usize) -> usize
     requires { length ≤ 128 }
     ensures { result ≡ padded_length length }
@@ -64,7 +64,7 @@ fn length_with_padding(length: usize) -> usize
     }
 }
 
-// The password with zeros up to the longest length.
+/// The password with zeros up to the longest length.
 fn with_zeros(password: &[u8]) -> [u8; MOST]
     requires { length password.now ≤ 128 }
     ensures { result ≡ password.now ++ replicate (128 - length password.now) 0 }
@@ -88,7 +88,7 @@ pub fn hide(secret: &[u8], authenticator: &[u8; 16], password: &[u8]) -> Result<
     Ok(Hidden { octets, length })
 }
 
-// The length without the zeros at the end.
+/// The length without the zeros at the end.
 fn length_without_zeros(octets: &[u8]) -> usize
     ensures length { result ≡ length (trimmed octets.now) }
     ensures octets { take result octets.now ≡ trimmed octets.now }

@@ -21,7 +21,7 @@ use diameter_message::{Header, Message, MessageWriter, find_avp};
 use std::alloc::Global;
 use wire_core::{NoMemory, Octets, put_u32};
 
-// The longest Session-Id that an answer repeats (profile).
+/// The longest Session-Id that an answer repeats (profile).
 const LONGEST_SESSION: usize = 4096;
 
 /// Who the agent is to its peer: its identity and realm, its IPv4 address, and its Origin-State-Id.

@@ -8,14 +8,14 @@ use crate::{LinkCause, Phase};
 use diameter_message::is_success;
 use radius_packet::Reason;
 
-// Result codes (RFC 6733, section 7.1).
+/// Result codes (RFC 6733, section 7.1).
 const SUCCESS: u32 = 2001;
 
 const COMMAND_UNSUPPORTED: u32 = 3001;
 
 const UNABLE_TO_COMPLY: u32 = 5012;
 
-// Requests of a link are counted below this.
+/// Requests of a link are counted below this.
 const REQUESTS: u32 = 0x8000_0000;
 
 const WRONG_PHASE: Act = Act::Discard {

@@ -14,10 +14,10 @@ use std::process::Abort;
 use std::test::Fail;
 use wire_core::NoMemory;
 
-// The End-to-End Identifier of the agent's requests.
+/// The End-to-End Identifier of the agent's requests.
 const END: u32 = 0x70_0000;
 
-// A peer in this phase: its link began at 0, and the agent asked to leave at 1000.
+/// A peer in this phase: its link began at 0, and the agent asked to leave at 1000.
 fn peer_in(alloc: Global, phase: Phase) -> Result<Peer, NoMemory> {
     let mut peer = Peer::new(alloc, b"agent.example", b"example", 0xc000_0201, 7, 30_000)?;
     match phase {
@@ -36,7 +36,7 @@ fn peer_in(alloc: Global, phase: Phase) -> Result<Peer, NoMemory> {
     Ok(peer)
 }
 
-// What comes of one input.
+/// What comes of one input.
 #[derive(Clone, Copy, Debug)]
 enum Comes {
     Nothing,
@@ -47,7 +47,7 @@ enum Comes {
     Pass,
 }
 
-// A row of the table: what comes of the input, and the phase then, by the phase before it.
+/// A row of the table: what comes of the input, and the phase then, by the phase before it.
 type Row = [(Comes, Phase); 4];
 
 const DROP: Comes = Comes::Discard(Reason::WrongPhase);
@@ -127,7 +127,7 @@ fn hear(
     }
 }
 
-// The rows that drop the input and change nothing.
+/// The rows that drop the input and change nothing.
 const CLOSED: (Comes, Phase) = (DROP, Phase::Closed);
 
 const GREETING: (Comes, Phase) = (DROP, Phase::Greeting);

@@ -180,6 +180,6 @@ pub record Rests (users : List User) (framer : FramerParts) (inlet : Inlet) (out
   pub counted : Counted 0 0 0 inlet outlet
 
 -- the run goes on, or ends with this status
-abbrev pub GoesOn : Option Status → List User → FramerParts → Inlet → Outlet → Option (List ℕ) → Option (List ℕ) → Type 0
-GoesOn None users framer inlet outlet before now = Rests users framer inlet outlet before now
-GoesOn (Some status) users framer inlet outlet before now = StopsBy status users inlet outlet before now
+abbrev pub KeepsAnswering : Option Status → List User → FramerParts → Inlet → Outlet → Option (List ℕ) → Option (List ℕ) → Type 0
+KeepsAnswering None users framer inlet outlet before now = Rests users framer inlet outlet before now
+KeepsAnswering (Some status) users framer inlet outlet before now = StopsBy status users inlet outlet before now

@@ -8,7 +8,7 @@ ghost use Rattle.wire_devices.specs.Links.{Inlet, IsFreshInlet, IsFreshOutlet};
 ghost use Rattle.test_peers.specs.Users.{users_in};
 ghost use Rattle.test_peers.specs.declared.users.User.{User};
 ghost use Rattle.text_commands.specs.WholeInput.{most_whole};
-ghost use Rattle.peer_runs.specs.HomeRuns.{FailsToRead, GoesOn, HomeBy, HomeCounts, IsSound, Knows, ReadsNone, Rests, RunsBy, SoFar, Takes, answer_octets, command_line as line_of, command_of as command_in, command_text};
+ghost use Rattle.peer_runs.specs.HomeRuns.{FailsToRead, KeepsAnswering, HomeBy, HomeCounts, IsSound, Knows, ReadsNone, Rests, RunsBy, SoFar, Takes, answer_octets, command_line as line_of, command_of as command_in, command_text};
 ghost use Rattle.peer_runs.specs.Until.{Early, InTime, Late, TimeIsOver};
 
 use agent_status::Status;
@@ -109,7 +109,7 @@ fn take_messages<R: Wait, O: LinkOut, K: Sink>(
     ensures users { home.new ≡ home.old }
     ensures answers { (inlet : Inlet) (before : Option (List ℕ))
         → SoFar home.old [] framer.old inlet (O.told link.old) before (K.written output.old)
-        → GoesOn result home.old framer.new inlet (O.told link.new) before (K.written output.new) }
+        → KeepsAnswering result home.old framer.new inlet (O.told link.new) before (K.written output.new) }
     ensures fault { result ≡ Some Status.WriteFault → Rose (K.faults output.old) (K.faults output.new) }
     ensures faults_stay { K.faults output.old ≤ K.faults output.new }
 {
@@ -141,7 +141,7 @@ fn take_piece<R: Wait, O: LinkOut, K: Sink>(
     ensures users { home.new ≡ home.old }
     ensures answers { (inlet : Inlet) (before : Option (List ℕ))
         → SoFar home.old piece.now framer.old inlet (O.told link.old) before (K.written output.old)
-        → GoesOn result home.old framer.new inlet (O.told link.new) before (K.written output.new) }
+        → KeepsAnswering result home.old framer.new inlet (O.told link.new) before (K.written output.new) }
     ensures fault { result ≡ Some Status.WriteFault → Rose (K.faults output.old) (K.faults output.new) }
     ensures faults_stay { K.faults output.old ≤ K.faults output.new }
 {
@@ -164,7 +164,7 @@ fn look<R: Wait, I: LinkIn, O: LinkOut, K: Sink>(
     ensures users { home.new ≡ home.old }
     ensures answers { (before : Option (List ℕ))
         → Rests home.old framer.old (I.told link.old.0) (O.told link.old.1) before (K.written output.old)
-        → GoesOn result home.old framer.new (I.told link.new.0) (O.told link.new.1) before (K.written output.new) }
+        → KeepsAnswering result home.old framer.new (I.told link.new.0) (O.told link.new.1) before (K.written output.new) }
     ensures fault { result ≡ Some Status.WriteFault → Rose (K.faults output.old) (K.faults output.new) }
     ensures faults_stay { K.faults output.old ≤ K.faults output.new }
 {

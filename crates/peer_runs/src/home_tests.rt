@@ -9,10 +9,10 @@ use std::test::Fail;
 use wire_core::{MemorySink, MemorySource, NoMemory};
 use wire_devices::{Line, MemoryClock, MemoryDialer, SteadyLine};
 
-// The user of the first example of RFC 2865, section 7.1.
+/// The user of the first example of RFC 2865, section 7.1.
 const USERS: &[u8] = b"nemo 61726374616E67656e74";
 
-// A Capabilities-Exchange-Request of the agent, and its answer.
+/// A Capabilities-Exchange-Request of the agent, and its answer.
 const CAPABILITIES: &[u8] =
     b"\x01\x00\x00\x98\x80\x00\x01\x01\x00\x00\x00\x00\x80\x00\x00\x00\x00\x70\x00\x00\
     \x00\x00\x01\x08\x40\x00\x00\x15agent.example\x00\x00\x00\
@@ -36,7 +36,7 @@ const CAPABILITIES_ANSWER: &[u8] =
     \x00\x00\x01\x02\x40\x00\x00\x0c\x00\x00\x00\x01\
     \x00\x00\x01\x03\x40\x00\x00\x0c\x00\x00\x00\x03";
 
-// An AA-Request of nemo with the password arctangent, and its answer where the two are known.
+/// An AA-Request of nemo with the password arctangent, and its answer where the two are known.
 const AA: &[u8] =
     b"\x01\x00\x00\xc0\xc0\x00\x01\x09\x00\x00\x00\x01\x00\x00\x00\x00\x00\x70\x00\x00\
     \x00\x00\x01\x07\x40\x00\x00\x19agent.example;7;0\x00\x00\x00\
@@ -81,7 +81,7 @@ struct Came {
     handed: Vec<u8>,
 }
 
-// The two requests come over the link, and it has a second.
+/// The two requests come over the link, and it has a second.
 fn run<R: Wait>(rt: &R, alloc: Global, play: &Play<'_>) -> Result<Came, NoMemory> {
     let mut octets = Vec::from_slice(alloc, CAPABILITIES)?;
     octets.extend_from_slice(AA)?;
@@ -120,7 +120,7 @@ fn run<R: Wait>(rt: &R, alloc: Global, play: &Play<'_>) -> Result<Came, NoMemory
     })
 }
 
-// No call fails, and time stands still.
+/// No call fails, and time stands still.
 fn still<'a>(users: &'a [u8], looks: &'a [usize]) -> Play<'a> {
     Play {
         users,
@@ -133,7 +133,7 @@ fn still<'a>(users: &'a [u8], looks: &'a [usize]) -> Play<'a> {
     }
 }
 
-// The messages come in pieces, and then the link ends.
+/// The messages come in pieces, and then the link ends.
 #[test]
 fn answers_until_the_link_ends(rt: HostRuntime) -> Result<(), Fail> {
     let alloc = rt.alloc();
@@ -146,7 +146,7 @@ fn answers_until_the_link_ends(rt: HostRuntime) -> Result<(), Fail> {
     Ok(())
 }
 
-// The first look comes a millisecond before the end, and finds the first message.
+/// The first look comes a millisecond before the end, and finds the first message.
 #[test]
 fn ends_in_time(rt: HostRuntime) -> Result<(), Fail> {
     let mut given = still(USERS, &[152]);

@@ -1,4 +1,4 @@
--- The index of numbers, once it is made anew.
+-- Internal: the index of numbers, once it is made anew.
 use Rattle.std.specs.Prelude.{◌≡◌, ℕ, ◌≤◌, false, List, length, Some, None}
 use Rattle.std.specs.List.{AllByRecursion}
 use Rattle.std.specs.HashMap.{HashMap, get, hash_map_len}

@@ -1,4 +1,4 @@
--- What the two stores and their indexes keep.
+-- Internal: what the two stores and their indexes keep.
 use Rattle.std.specs.Prelude.{◌≡◌, ℕ, ◌+◌, ◌<◌, ◌≤◌, Bool, true, false, nat_lt, ◌==◌, ◌&&◌, not, List, [], ◌∷◌, filter, slice_get, length, Option, Some, None, option_map, option_and_then, if◌then◌else◌, ◌-◌, ⊤, ◌⊎◌}
 use Rattle.std.specs.List.{AllByRecursion}
 use Rattle.std.specs.HashMap.{get, hash_map_len, spare}

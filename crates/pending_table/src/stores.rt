@@ -46,9 +46,9 @@ pub(crate) struct Stores {
     pub(crate) settled: VecDeque<(u64, Row)>,
     pub(crate) patience: u64,
     pub(crate) retention: u64,
-    // How many settled ones were dropped.
+    /// How many settled ones were dropped.
     pub(crate) dropped: u64,
-    // The serial number of the next row.
+    /// The serial number of the next row.
     pub(crate) next: u64,
 }
 

@@ -322,7 +322,7 @@ fn the_largest_table_takes_many(rt: HostRuntime) -> Result<(), Fail> {
     Ok(())
 }
 
-// An allocation that fails while the second request is taken up is met here.
+/// An allocation that fails while the second request is taken up is met here.
 #[test]
 fn a_refused_request_leaves_what_was_there(rt: HostRuntime) -> Result<(), Fail> {
     let mut caller = Caller::new(rt.alloc(), RandomState::new(&rt)?, 1, 1000, 1000)?;

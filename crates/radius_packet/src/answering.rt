@@ -37,7 +37,7 @@ impl Model for Reply {
     ghost invariant = { λ r. IsDraft r.sealed r.octets.items × (4096 ≤ vec_capacity r.octets) };
 }
 
-// Appends octets for which there is room, so that no memory is taken.
+/// Appends octets for which there is room, so that no memory is taken.
 fn append(octets: &mut Vec<u8>, piece: &[u8])
     requires { vec_len octets.old + length piece.now ≤ vec_capacity octets.old }
     ensures items { octets.new.items ≡ octets.old.items ++ piece.now }
@@ -46,7 +46,7 @@ fn append(octets: &mut Vec<u8>, piece: &[u8])
     octets.extend_from_slice(piece).unwrap();
 }
 
-// Puts the Message-Authenticator into its place, the value of the first attribute.
+/// Puts the Message-Authenticator into its place, the value of the first attribute.
 fn seal(octets: &mut [u8], secret: &[u8])
     requires { 38 ≤ length octets.old }
     ensures { octets.new ≡ take 22 octets.old ++ hmac_of secret.now octets.old ++ drop 38 octets.old }
@@ -55,7 +55,7 @@ fn seal(octets: &mut [u8], secret: &[u8])
     octets[22..38].copy_from_slice(&value);
 }
 
-// Puts the Response Authenticator in place of the request's.
+/// Puts the Response Authenticator in place of the request's.
 fn sign(octets: &mut [u8], secret: &[u8])
     requires { 20 ≤ length octets.old }
     ensures { octets.new ≡ take 4 octets.old ++ md5 (octets.old ++ secret.now) ++ drop 20 octets.old }
@@ -66,7 +66,7 @@ fn sign(octets: &mut [u8], secret: &[u8])
     octets[4..HEADER].copy_from_slice(&hasher.finalize());
 }
 
-// Makes the signed packet of a draft.
+/// Makes the signed packet of a draft.
 fn fill(octets: &mut [u8], sealed: bool, secret: &[u8])
     requires { IsDraft sealed octets.old }
     ensures { let r = draft_in sealed octets.old in octets.new ≡ reply_text secret.now r.request r.code r.id sealed r.attributes }

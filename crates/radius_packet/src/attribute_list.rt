@@ -32,7 +32,7 @@ impl<'a> Model for Attributes<'a> {
 }
 
 impl<'a> Attributes<'a> {
-    // The attributes in these octets, which are whole.
+    /// The attributes in these octets, which are whole.
     pub(crate) fn new(octets: &'a [u8]) -> Attributes<'a>
         requires { octets.now ≡ attributes_text (attributes_in octets.now) }
         ensures { result ≡ attributes_in octets.now }

@@ -25,7 +25,7 @@ pub enum Seal {
     Wrong,
 }
 
-// The MD5 of a packet that has this authenticator in place of its own, and of the secret.
+/// The MD5 of a packet that has this authenticator in place of its own, and of the secret.
 fn authenticator_with(octets: &[u8], request: &[u8; 16], secret: &[u8]) -> [u8; 16]
     requires { 20 ≤ length octets.now }
     ensures { result ≡ response_authenticator secret.now request.now octets.now }
@@ -38,7 +38,7 @@ fn authenticator_with(octets: &[u8], request: &[u8; 16], secret: &[u8]) -> [u8; 
     hasher.finalize()
 }
 
-// How many octets of the attributes stand before the first Message-Authenticator.
+/// How many octets of the attributes stand before the first Message-Authenticator.
 fn octets_before_seal(attributes: Attributes<'_>) -> Option<usize>
     requires { length (attributes_text attributes) ≤ 4076 }
     ensures { result ≡ seal_place attributes.entry 0 }
@@ -60,7 +60,7 @@ fn has_seal(octets: &[u8]) -> bool
     Attributes::new(octets).any(|a| a.code == SEAL)
 }
 
-// The HMAC-MD5 of octets with sixteen zeros at a place.
+/// The HMAC-MD5 of octets with sixteen zeros at a place.
 fn seal_with_zeros(octets: &[u8], place: usize, secret: &[u8]) -> [u8; 16]
     requires { place + 16 ≤ length octets.now }
     ensures { result ≡ hmac_of secret.now (take place octets.now ++ replicate 16 0 ++ drop (place + 16) octets.now) }
@@ -72,7 +72,7 @@ fn seal_with_zeros(octets: &[u8], place: usize, secret: &[u8]) -> [u8; 16]
     code.finish()
 }
 
-// What the first Message-Authenticator says, which begins at this place.
+/// What the first Message-Authenticator says, which begins at this place.
 fn test_seal(octets: &[u8], place: usize, secret: &[u8]) -> Seal
     requires { (p : PacketParts) × SealAt octets.now p place }
     ensures { (p : PacketParts) → SealAt octets.now p place → result ≡ seal_of secret.now p }

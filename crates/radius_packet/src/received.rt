@@ -28,7 +28,7 @@ impl<'a> Model for Packet<'a> {
     ghost invariant = { λ p. IsPacket p.octets.now (packet_in p.octets.now) };
 }
 
-// The place of the first attribute that is not whole.
+/// The place of the first attribute that is not whole.
 fn check_attributes(octets: &[u8]) -> Result<(), PacketFault>
     ensures { result_err result ≡ result_err (read_attributes (drop 20 octets.now) 0 20) }
 {

@@ -1,4 +1,4 @@
--- What is borrowed, without where it lies in memory.
+-- Internal: what is borrowed, without where it lies in memory.
 use Rattle.std.specs.Prelude.{ℕ, List, [], Option, Some, None}
 use Rattle.std.specs.Borrow.{Bor}
 use Rattle.test_peers.specs.Lines.{pieces_of}

@@ -10,10 +10,10 @@ use std::process::Abort;
 use std::test::Fail;
 use wire_core::{NoMemory, Octets};
 
-// The user of the first example of RFC 2865, section 7.1, and one with an empty password.
+/// The user of the first example of RFC 2865, section 7.1, and one with an empty password.
 const USERS: &[u8] = b"flopsy -\nnemo 61726374616E67656e74";
 
-// The Access-Request of that example, and another packet with its identifier, and one with another.
+/// The Access-Request of that example, and another packet with its identifier, and one with another.
 const REQUEST: &[u8] =
     b"\x01\x00\x00\x38\x0f\x40\x3f\x94\x73\x97\x80\x57\xbd\x83\xd5\xcb\x98\xf4\x22\x7a\
     \x01\x06nemo\x02\x12\x0d\xbe\x70\x8d\x93\xd4\x13\xce\x31\x96\xe4\x3f\x78\x2a\x0a\xee\
@@ -29,7 +29,7 @@ fn users() -> &'static [u8] {
     USERS
 }
 
-// The octets of the answer are these, or there is none.
+/// The octets of the answer are these, or there is none.
 fn compare(
     rt: &impl Abort,
     home: &mut Home,
@@ -78,7 +78,7 @@ fn is_silent(rt: HostRuntime) -> Result<(), Fail> {
     Ok(())
 }
 
-// Which line is bad, and why; 0 where none is.
+/// Which line is bad, and why; 0 where none is.
 fn first_bad(alloc: Global, text: &[u8]) -> (u64, u32) {
     match Home::new(alloc, text) {
         Ok(_) => (0, 0),
@@ -115,7 +115,7 @@ fn names_a_line_that_is_too_long(rt: HostRuntime) -> Result<(), Fail> {
     Ok(())
 }
 
-// A client with the example's request and a patience of 1200 ms.
+/// A client with the example's request and a patience of 1200 ms.
 fn client(alloc: Global) -> Result<Nas, NoMemory> {
     let packet = Octets::copy(alloc, REQUEST)?;
     match Packet::parse(packet.as_slice()) {
@@ -153,7 +153,7 @@ fn takes_its_reply(rt: HostRuntime) -> Result<(), Fail> {
     Ok(())
 }
 
-// The octets of the line's packet, or why there is none; 9 where memory is wanting.
+/// The octets of the line's packet, or why there is none; 9 where memory is wanting.
 fn packet_of(alloc: Global, line: &[u8]) -> Result<Octets, u32> {
     match packet_in_line(alloc, line) {
         Ok(octets) => Ok(octets),

@@ -6,7 +6,7 @@ use Rattle.wire_core.specs.Counts.{one_more}
 use Rattle.wire_core.specs.Sink.{AppendsPrefix}
 use Rattle.transcript.specs.Positions.{IsReading, StandsAt, TakesBad, TakesLine, TakesStep}
 use Rattle.transcript.specs.Reading.{At, Bad, Said, Step, read_from, read_line, said_on, start}
-use Rattle.transcript.specs.Run.{Agrees, CanFollow, LinesCanFollow, Stage, first, follow, line_text, stage_after, text_of_lines}
+use Rattle.transcript.specs.Run.{Agrees, CanFollow, LinesCanFollow, Stage, first, follow, printed_for, stage_after, printed_for_lines}
 use Rattle.transcript.specs.declared.line.Line.{Line}
 use Rattle.transcript.specs.declared.line_fault.LineFault.{LineFault}
 use Rattle.transcript.specs.declared.line_fault.LineFault.TheVariants as fault
@@ -70,11 +70,11 @@ place-append at (octets ∷ lines) more = place-append (step_place at (read_line
 -- ---- what the lines print
 
 text-append : (stage : Stage) (lines more : List Line)
-    → text_of_lines stage (lines ++ more) ≡ text_of_lines stage lines ++ text_of_lines (stage_after stage lines) more
+    → printed_for_lines stage (lines ++ more) ≡ printed_for_lines stage lines ++ printed_for_lines (stage_after stage lines) more
 text-append stage [] more = refl
 text-append stage (l ∷ lines) more =
-    ap (λ r. line_text stage l ++ r) (text-append (follow stage l) lines more)
-    ∙ sym (append_assoc (line_text stage l) (text_of_lines (follow stage l) lines) (text_of_lines (stage_after (follow stage l) lines) more))
+    ap (λ r. printed_for stage l ++ r) (text-append (follow stage l) lines more)
+    ∙ sym (append_assoc (printed_for stage l) (printed_for_lines (follow stage l) lines) (printed_for_lines (stage_after (follow stage l) lines) more))
 
 stage-append : (stage : Stage) (lines more : List Line) → stage_after stage (lines ++ more) ≡ stage_after (stage_after stage lines) more
 stage-append stage [] more = refl
@@ -102,7 +102,7 @@ pub record LineSays (lines : List (List ℕ)) (octets : List ℕ) (said : Line) 
   pub said_is : (read_from start (lines ++ octets ∷ [])).lines ≡ (read_from start lines).lines ++ said ∷ []
   pub next_is : at_line (lines ++ octets ∷ []) ≡ next
   pub stage : at_stage (lines ++ octets ∷ []) ≡ follow (at_stage lines) said
-  pub text : replay_task.text (lines ++ octets ∷ []) ≡ replay_task.text lines ++ line_text (at_stage lines) said
+  pub text : replay_task.text (lines ++ octets ∷ []) ≡ replay_task.text lines ++ printed_for (at_stage lines) said
 
 pub line-says : (lines : List (List ℕ)) (octets : List ℕ) (said : Line) (next : At) → (read_from start lines).stop ≡ None
     → read_line (at_line lines) octets ≡ Ok (said, next) → LineSays lines octets said next
@@ -117,8 +117,8 @@ line-says lines octets said next none says =
       next_is = place-append start lines (octets ∷ []) ∙ ap (step_place (at_line lines)) says;
       stage = ap (stage_after first) said_is ∙ stage-append first (read_from start lines).lines (said ∷ []);
       text =
-          ap (text_of_lines first) said_is ∙ text-append first (read_from start lines).lines (said ∷ [])
-          ∙ ap (λ r. text_of_lines first (read_from start lines).lines ++ r) (append-nil (line_text (at_stage lines) said));
+          ap (printed_for_lines first) said_is ∙ text-append first (read_from start lines).lines (said ∷ [])
+          ∙ ap (λ r. printed_for_lines first (read_from start lines).lines ++ r) (append-nil (printed_for (at_stage lines) said));
     }
 
 -- a line that is bad
@@ -137,9 +137,9 @@ quiet-step lines octets bad (Ok step) is none stop =
     cc (says.sound, stop)
 quiet-step lines octets bad (Err reason) is none stop =
     let more = one-more lines octets none in
-    ap (λ (s : Said). text_of_lines first s.lines) more
-    ∙ ap (λ step. text_of_lines first ((read_from start lines).lines ++ (one (at_line lines) step).lines)) is
-    ∙ ap (text_of_lines first) (append-nil (read_from start lines).lines)
+    ap (λ (s : Said). printed_for_lines first s.lines) more
+    ∙ ap (λ step. printed_for_lines first ((read_from start lines).lines ++ (one (at_line lines) step).lines)) is
+    ∙ ap (printed_for_lines first) (append-nil (read_from start lines).lines)
 
 pub is-task : IsTask replay_task
 is-task = record {
@@ -147,7 +147,7 @@ is-task = record {
   empty = refl;
   quiet = λ lines line bad none stop. quiet-step lines line bad (read_line (at_line lines) line) refl none stop;
   stop = λ lines more bad is. ap (λ (s : Said). s.stop) (stays start lines more bad is) ∙ is;
-  text = λ lines more bad is. ap (λ (s : Said). text_of_lines first s.lines) (stays start lines more bad is);
+  text = λ lines more bad is. ap (λ (s : Said). printed_for_lines first s.lines) (stays start lines more bad is);
 }
 
 -- ---- a line that was read
@@ -188,7 +188,7 @@ replays-on lines octets said work f at = record {
 }
 
 pub adds-text : (lines : List (List ℕ)) (octets : List ℕ) (said : Line) (next : At) → LineSays lines octets said next
-    → Adds replay_task lines octets (line_text (at_stage lines) said)
+    → Adds replay_task lines octets (printed_for (at_stage lines) said)
 adds-text lines octets said next says = record { sound = says.sound; text = says.text }
 
 -- ---- a line that wasn't
@@ -223,9 +223,9 @@ refused fault.Long lines octets reader before now none takes same = absurd takes
 
 -- a line that was read and not followed to its end
 pub failed : (status : Status) (lines : List (List ℕ)) (octets : List ℕ) (said : Line) (next : At) (before now : Option (List ℕ)) → IsFailure status
-    → LineSays lines octets said next → AppendsPrefix before now (line_text (at_stage lines) said) → WorksNot replay_task status lines octets before now
-failed WriteFault lines octets said next before now is says part = (line_text (at_stage lines) said, adds-text lines octets said next says, part)
-failed OutOfMemory lines octets said next before now is says part = inr (line_text (at_stage lines) said, adds-text lines octets said next says, part)
+    → LineSays lines octets said next → AppendsPrefix before now (printed_for (at_stage lines) said) → WorksNot replay_task status lines octets before now
+failed WriteFault lines octets said next before now is says part = (printed_for (at_stage lines) said, adds-text lines octets said next says, part)
+failed OutOfMemory lines octets said next before now is says part = inr (printed_for (at_stage lines) said, adds-text lines octets said next says, part)
 failed Done lines octets said next before now is says part = absurd is
 failed Usage lines octets said next before now is says part = absurd is
 failed LinkFault lines octets said next before now is says part = absurd is
@@ -241,8 +241,8 @@ failed TooLong lines octets said next before now is says part = absurd is
 -- what taking a line does that was read
 pub works : (r : Result Unit Status) (lines : List (List ℕ)) (octets : List ℕ) (said : Line) (new : ReplayWork) (before now : Option (List ℕ))
     → (f : Follows lines octets said new.reader) → OnOk r (session.Follows new.session (at_stage lines) said before now)
-    → AppendsPrefix before now (line_text (at_stage lines) said) → IfErr r IsFailure
+    → AppendsPrefix before now (printed_for (at_stage lines) said) → IfErr r IsFailure
     → Works replay_task (λ ls. Replays new ls) r lines octets before now
 works (Ok done) lines octets said new before now f (at, wrote) part failure =
-    (replays-on lines octets said new f at, (line_text (at_stage lines) said, adds-text lines octets said f.next f.says, wrote))
+    (replays-on lines octets said new f at, (printed_for (at_stage lines) said, adds-text lines octets said f.next f.says, wrote))
 works (Err status) lines octets said new before now f done part failure = failed status lines octets said f.next before now failure f.says part

@@ -19,7 +19,7 @@ use Rattle.agent_core.specs.History.{place, outputs_after}
 use Rattle.agent_core.specs.Standing.{StandsFor}
 use Rattle.agent_core.specs.Laws.{PastGoesOn}
 use Rattle.transcript.specs.Text.{output_line, is_reply, is_send, is_drop}
-use Rattle.transcript.specs.Run.{Running, Settings, Stage, event_at, follow, inputs_text, line_text, outputs_of, places_after}
+use Rattle.transcript.specs.Run.{Running, Settings, Stage, event_at, follow, inputs_text, printed_for, outputs_of, places_after}
 use Rattle.transcript.specs.declared.line.Line.TheVariants as line
 use Rattle.text_commands.specs.declared.session.Counts.{Counts}
 use Rattle.text_commands.specs.declared.session.Session.{Session}
@@ -178,7 +178,7 @@ in-run-all {before} {now} core counts config ps number moment inputs rest none r
 
 -- ---- a client line prints nothing
 
-client-text : (stage : Stage) (number : ℕ) (client : Client) (written : Option (List ℕ)) → Appends written written (line_text stage (line.Client number client))
+client-text : (stage : Stage) (number : ℕ) (client : Client) (written : Option (List ℕ)) → Appends written written (printed_for stage (line.Client number client))
 client-text (Settings told) number client written = Appends-none written
 client-text (Running config ps) number client written = Appends-none written
 

@@ -2,7 +2,7 @@
 use Rattle.std.specs.Prelude.{◌≡◌, ℕ, List, [], ◌∷◌, None, Ok, Err}
 use Rattle.transcript.specs.Reading.{At, Step, read_from, read_line, start}
 use Rattle.transcript.specs.Positions.{IsReading}
-use Rattle.transcript.specs.Run.{Agrees, end_text, first, stage_after, text_of_lines}
+use Rattle.transcript.specs.Run.{Agrees, end_text, first, stage_after, printed_for_lines}
 use Rattle.text_commands.specs.declared.replaying.ReplayWork.{ReplayWork}
 use Rattle.text_commands.specs.Session.{IsAt}
 use Rattle.text_commands.specs.Tasks.{Task}
@@ -11,7 +11,7 @@ use Rattle.text_commands.specs.Tasks.{Task}
 abbrev pub replay_task : Task
 replay_task = record {
   stop = λ lines. (read_from start lines).stop;
-  text = λ lines. text_of_lines first (read_from start lines).lines;
+  text = λ lines. printed_for_lines first (read_from start lines).lines;
   close = λ lines. end_text (stage_after first (read_from start lines).lines);
 }
 

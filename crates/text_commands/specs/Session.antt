@@ -1,4 +1,4 @@
--- What a replay knows of the lines so far.
+-- Internal: what a replay knows of the lines so far.
 use Rattle.std.specs.Prelude.{◌≡◌, ℕ, ◌+◌, ◌-◌, ◌^◌, List, [], ◌∷◌, min, count_by, Option, Some, None, ⊤}
 use Rattle.std.specs.List.{flat_map}
 use Rattle.wire_core.specs.Sink.{Appends}
@@ -9,7 +9,7 @@ use Rattle.agent_core.specs.Places.{Event, Place}
 use Rattle.agent_core.specs.History.{place, past}
 use Rattle.agent_core.specs.Standing.{StandsFor}
 use Rattle.transcript.specs.Text.{output_line, is_reply, is_send, is_drop}
-use Rattle.transcript.specs.Run.{Stage, Settings, Running, follow, line_text, outputs_of}
+use Rattle.transcript.specs.Run.{Stage, Settings, Running, follow, printed_for, outputs_of}
 use Rattle.transcript.specs.declared.line.Line.{Line}
 use Rattle.agent_status.specs.declared.status.Status.{Status}
 use Rattle.agent_status.specs.declared.status.Status.TheVariants.{Done, WriteFault, OutOfMemory}
@@ -58,7 +58,7 @@ begun (Running config ps) = Running config ps
 
 -- the session is at the stage after the line, and what the line prints was written
 abbrev pub Follows : Session → Stage → Line → Option (List ℕ) → Option (List ℕ) → Type 0
-Follows session stage said before now = IsAt session (follow stage said) × Appends before now (line_text stage said)
+Follows session stage said before now = IsAt session (follow stage said) × Appends before now (printed_for stage said)
 
 -- why a line wasn't followed
 abbrev pub IsFailure : Status → Type 0

@@ -1,4 +1,4 @@
--- Statuses of a reading.
+-- Internal: statuses of a reading.
 use Rattle.transcript.specs.declared.line_fault.LineFault.{LineFault}
 use Rattle.transcript.specs.declared.line_fault.LineFault.TheVariants as fault
 use Rattle.agent_status.specs.declared.status.Status.{Status}

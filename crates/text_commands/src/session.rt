@@ -9,7 +9,7 @@ ghost use Rattle.agent_config.specs.Config.{InLimits, find_address};
 ghost use Rattle.agent_core.specs.Places.{Place};
 ghost use Rattle.agent_core.specs.History.{place};
 ghost use Rattle.transcript.specs.Text.{output_line, is_reply as reply_test, is_send as send_test, is_drop as drop_test};
-ghost use Rattle.transcript.specs.Run.{CanFollow, Stage, end_text, event_at, first, follow as followed, inputs_text, line_text, places_after};
+ghost use Rattle.transcript.specs.Run.{CanFollow, Stage, end_text, event_at, first, follow as followed, inputs_text, printed_for, places_after};
 ghost use Rattle.transcript.specs.declared.line.Line.TheVariants as line;
 ghost use Rattle.text_commands.specs.Session.{Follows, IsAt, IsDone, IsFailure, RunsAt, RunsOn, begun, counted};
 
@@ -263,7 +263,7 @@ impl Session {
         ensures runs { (stage : Stage) → IsAt self.old (begun stage)
             → OnOk result (Follows self.new stage (line.Event number moment inputs.now) (K.written sink.old) (K.written sink.new)) }
         ensures part { (stage : Stage) → IsAt self.old (begun stage)
-            → AppendsPrefix (K.written sink.old) (K.written sink.new) (line_text stage (line.Event number moment inputs.now)) }
+            → AppendsPrefix (K.written sink.old) (K.written sink.new) (printed_for stage (line.Event number moment inputs.now)) }
         ensures fault { result ≡ Err Status.WriteFault → Rose (K.faults sink.old) (K.faults sink.new) }
         ensures failure { IfErr result IsFailure }
         ensures faults_stay { K.faults sink.old ≤ K.faults sink.new }
@@ -285,7 +285,7 @@ impl Session {
         ensures follows { (stage : Stage) → IsAt self.old stage
             → OnOk result (Follows self.new stage line (K.written sink.old) (K.written sink.new)) }
         ensures part { (stage : Stage) → IsAt self.old stage
-            → AppendsPrefix (K.written sink.old) (K.written sink.new) (line_text stage line) }
+            → AppendsPrefix (K.written sink.old) (K.written sink.new) (printed_for stage line) }
         ensures fault { result ≡ Err Status.WriteFault → Rose (K.faults sink.old) (K.faults sink.new) }
         ensures failure { IfErr result IsFailure }
         ensures faults_stay { K.faults sink.old ≤ K.faults sink.new }

@@ -9,7 +9,7 @@ use std::process::Abort;
 use std::test::Fail;
 use wire_core::{MemorySink, MemorySource};
 
-// A login that is accepted.
+/// A login that is accepted.
 const ACCEPTED: &str = "\
 agent agent.example example example 192.0.2.1 7 30000 64 64 30000
 client nas1 192.168.1.16 78797a7a7935343631 nas1.example example plain refuse -
@@ -24,7 +24,7 @@ const ACCEPTED_TEXT: &str = "\
 end 1 1 0
 ";
 
-// A login that is refused.
+/// A login that is refused.
 const REFUSED: &str = "\
 agent agent.example example example 192.0.2.1 7 30000 64 64 30000
 client nas1 192.168.1.16 78797a7a7935343631 nas1.example example plain refuse -
@@ -39,7 +39,7 @@ const REFUSED_TEXT: &str = "\
 end 1 1 0
 ";
 
-// A request with a password (RFC 2865, section 7.1).
+/// A request with a password (RFC 2865, section 7.1).
 const PASSWORD: &str = "\
 agent agent.example example example 192.0.2.1 7 30000 64 64 30000
 client nas1 192.168.1.16 78797a7a7935343631 nas1.example example plain refuse -
@@ -52,14 +52,14 @@ const PASSWORD_TEXT: &str = "\
 end 0 1 0
 ";
 
-// An event of another name.
+/// An event of another name.
 const BAD: &str = "\
 agent agent.example example example 192.0.2.1 7 30000 64 64 30000
 client nas1 192.168.1.16 78797a7a7935343631 nas1.example example plain refuse -
 0 readi
 ";
 
-// Replays a text whose reads give so many octets at most, and compares what was written.
+/// Replays a text whose reads give so many octets at most, and compares what was written.
 fn replays(
     rt: &impl Abort,
     alloc: Global,
@@ -105,9 +105,9 @@ fn last_line_without_an_end(rt: HostRuntime) -> Result<(), Fail> {
     )
 }
 
-// The reads give 64 octets each of the 510, so these are the first one, one within the answer's line, and the last
-// one, which would have said that the input is at its end. The writes are those of lines 4 and 5 and of the end line,
-// with 352, 164 and 10 octets; half of a piece is written where its write fails.
+/// The reads give 64 octets each of the 510, so these are the first one, one within the answer's line, and the last
+/// one, which would have said that the input is at its end. The writes are those of lines 4 and 5 and of the end line,
+/// with 352, 164 and 10 octets; half of a piece is written where its write fails.
 #[test]
 fn ends_before(rt: HostRuntime) -> Result<(), Fail> {
     let random = RandomState::new(&rt)?;
@@ -130,7 +130,7 @@ fn ends_before(rt: HostRuntime) -> Result<(), Fail> {
     Ok(())
 }
 
-// A packet, octets that are none, and a line of another name.
+/// A packet, octets that are none, and a line of another name.
 const PACKETS: &str = "\
 radius 01050026000102030405060708090a0b0c0d0e0f01066e656d6f20066e617331050600000003
 radius 0105
@@ -173,7 +173,7 @@ agent agent.example example example 192.0.2.1 7 30000 4096 4096 30000 30000
 client nas1 192.168.1.16 78797a7a7935343631 nas1.example example plain refuse -
 ";
 
-// Reads of 100 octets each, of which the second one, or none, fails.
+/// Reads of 100 octets each, of which the second one, or none, fails.
 #[test]
 fn checks_settings(rt: HostRuntime) -> Result<(), Fail> {
     for (text, failing, status, written) in [
@@ -196,8 +196,8 @@ fn checks_settings(rt: HostRuntime) -> Result<(), Fail> {
     Ok(())
 }
 
-// The seed 1 draws 1015568748, 1586005467, 2165703038 and 3027450565, whose bits 16, 17 and 18 are 0 0 0, 0 0 0,
-// 0 1 1 and 1 1 0: so the third request comes again after its answer, and the fourth before it.
+/// The seed 1 draws 1015568748, 1586005467, 2165703038 and 3027450565, whose bits 16, 17 and 18 are 0 0 0, 0 0 0,
+/// 0 1 1 and 1 1 0: so the third request comes again after its answer, and the fourth before it.
 #[test]
 fn measures_four(rt: HostRuntime) -> Result<(), Fail> {
     let random = RandomState::new(&rt)?;
@@ -210,7 +210,7 @@ fn measures_four(rt: HostRuntime) -> Result<(), Fail> {
     Ok(())
 }
 
-// What is generated can be replayed, and the end line is that of the measure.
+/// What is generated can be replayed, and the end line is that of the measure.
 #[test]
 fn generates_what_can_be_replayed(rt: HostRuntime) -> Result<(), Fail> {
     let random = RandomState::new(&rt)?;

@@ -18,7 +18,7 @@ use Rattle.agent_core.specs.declared.events.Input.TheVariants as input
 use Rattle.transcript.specs.Grammar.{IsDatagram, IsHappening, IsHex, Lacks}
 use Rattle.transcript.specs.Inputs.{inputs_of}
 use Rattle.transcript.specs.Generating.{logins_from}
-use Rattle.transcript.specs.Generator.{answer_line, answer_octets, drain_line, draw, event_of, generated_lines, has_bit, line_of, login_lines, moment, next_draw, opening_lines, repeat_lines, request_line, request_octets}
+use Rattle.transcript.specs.Generator.{answer_line, answer_octets, drain_line, draw, event_line, generated_lines, has_bit, line_of, login_lines, moment, next_draw, opening_lines, repeat_lines, request_line, request_octets}
 use Rattle.transcript.specs.GeneratorLaws.{GeneratedLinesAreSound}
 use Rattle.transcript.specs.Reading.{At, Step, read_from, read_line, said_on, start}
 use Rattle.transcript.specs.declared.happening.Happening.{Happening}
@@ -61,7 +61,7 @@ lines-sound at (octets ∷ lines) events are =
 -- ---- the lines of a login
 
 login-line : (i : ℕ) (word : List ℕ) (words : List (List ℕ)) (told : Happening) → i < 1000000 → All (Lacks 32) (word ∷ words)
-    → IsHappening (word ∷ words) told → length (line_of (word ∷ words)) ≤ 1000 → IsEventLine (event_of i (word ∷ words))
+    → IsHappening (word ∷ words) told → length (line_of (word ∷ words)) ≤ 1000 → IsEventLine (event_line i (word ∷ words))
 login-line i word words told few lack is short = λ at events.
     let brief : length (decimal (moment i)) ≤ 8 = length-decimal-le 8 (moment i) (omega arith) (omega arith) (omega arith) in
     record {

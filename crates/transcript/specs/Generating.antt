@@ -1,4 +1,4 @@
--- What a generator still has to give, from where it stands.
+-- Internal: what a generator still has to give, from where it stands.
 use Rattle.std.specs.Prelude.{ℕ, zero, suc, ◌+◌, List, [], ◌∷◌, ◌++◌, Option, Some, None}
 use Rattle.transcript.specs.Generator.{agent_line, client_line, ready_line, opening_lines, request_line, answer_line, drain_line, repeat_lines, login_lines, next_draw}
 use Rattle.transcript.specs.declared.generator.Stage.{Stage}

@@ -85,17 +85,17 @@ abbrev pub moment : ℕ → ℕ
 moment i = 20 * i
 
 -- an event at the moment of a login
-abbrev pub event_of : ℕ → List (List ℕ) → List ℕ
-event_of i words = line_of (decimal (moment i) ∷ words)
+abbrev pub event_line : ℕ → List (List ℕ) → List ℕ
+event_line i words = line_of (decimal (moment i) ∷ words)
 
 abbrev pub request_line : ℕ → List ℕ
-request_line i = event_of i (codes "auth" ∷ codes "10.0.0.1" ∷ codes "1812" ∷ encode_lower (request_octets i) ∷ [])
+request_line i = event_line i (codes "auth" ∷ codes "10.0.0.1" ∷ codes "1812" ∷ encode_lower (request_octets i) ∷ [])
 
 abbrev pub answer_line : ℕ → ℕ → List ℕ
-answer_line i r = event_of i (codes "link" ∷ encode_lower (answer_octets i r) ∷ [])
+answer_line i r = event_line i (codes "link" ∷ encode_lower (answer_octets i r) ∷ [])
 
 abbrev pub drain_line : ℕ → List ℕ
-drain_line i = event_of i (codes "drain" ∷ [])
+drain_line i = event_line i (codes "drain" ∷ [])
 
 -- the request once more, where the bit at this place is set
 abbrev pub repeat_lines : ℕ → ℕ → ℕ → List (List ℕ)

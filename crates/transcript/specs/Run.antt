@@ -46,14 +46,14 @@ follow (Running config ps) (line.Agent number other) = Running config ps
 follow (Running config ps) (line.Client number client) = Running config ps
 follow (Running config ps) (line.Event number moment inputs) = Running config (places_after config ps moment inputs)
 
-abbrev pub line_text : Stage → Line → List ℕ
-line_text (Settings told) (line.Agent number config) = []
-line_text (Settings told) (line.Client number client) = []
-line_text (Settings None) (line.Event number moment inputs) = []
-line_text (Settings (Some config)) (line.Event number moment inputs) = inputs_text number config [] moment inputs
-line_text (Running config ps) (line.Agent number other) = []
-line_text (Running config ps) (line.Client number client) = []
-line_text (Running config ps) (line.Event number moment inputs) = inputs_text number config ps moment inputs
+abbrev pub printed_for : Stage → Line → List ℕ
+printed_for (Settings told) (line.Agent number config) = []
+printed_for (Settings told) (line.Client number client) = []
+printed_for (Settings None) (line.Event number moment inputs) = []
+printed_for (Settings (Some config)) (line.Event number moment inputs) = inputs_text number config [] moment inputs
+printed_for (Running config ps) (line.Agent number other) = []
+printed_for (Running config ps) (line.Client number client) = []
+printed_for (Running config ps) (line.Event number moment inputs) = inputs_text number config ps moment inputs
 
 -- ---- whole transcripts
 
@@ -64,9 +64,9 @@ abbrev pub stage_after : Stage → List Line → Stage
 stage_after stage [] = stage
 stage_after stage (l ∷ lines) = stage_after (follow stage l) lines
 
-abbrev pub text_of_lines : Stage → List Line → List ℕ
-text_of_lines stage [] = []
-text_of_lines stage (l ∷ lines) = line_text stage l ++ text_of_lines (follow stage l) lines
+abbrev pub printed_for_lines : Stage → List Line → List ℕ
+printed_for_lines stage [] = []
+printed_for_lines stage (l ∷ lines) = printed_for stage l ++ printed_for_lines (follow stage l) lines
 
 abbrev pub places_in : Stage → List Place
 places_in (Settings told) = []
@@ -82,7 +82,7 @@ end_text stage =
 
 -- what a transcript of these lines prints
 abbrev pub transcript_text : List Line → List ℕ
-transcript_text lines = text_of_lines first lines ++ end_text (stage_after first lines)
+transcript_text lines = printed_for_lines first lines ++ end_text (stage_after first lines)
 
 -- ---- what follows from reading
 

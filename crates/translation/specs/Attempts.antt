@@ -1,4 +1,4 @@
--- The class of an answer as the code comes to it. No public clause cites this.
+-- Internal: the class of an answer as the code comes to it.
 use Rattle.std.specs.Prelude.{ℕ, Bool, not, ◌&&◌, List, Option, Some, None, if◌then◌else◌}
 use Rattle.diameter_avp.specs.Avps.{AvpParts}
 use Rattle.diameter_message.specs.declared.header.Header.{Header}

@@ -1,13 +1,13 @@
 //! Numbers of packets and attributes.
 
-// Packets (RFC 2865, section 3; RFC 2866, section 3).
+/// Packets (RFC 2865, section 3; RFC 2866, section 3).
 pub(crate) const ACCESS_ACCEPT: u8 = 2;
 
 pub(crate) const ACCESS_REJECT: u8 = 3;
 
 pub(crate) const ACCESS_CHALLENGE: u8 = 11;
 
-// RFC 2865, section 5.
+/// RFC 2865, section 5.
 pub(crate) const USER_NAME: u8 = 1;
 
 pub(crate) const USER_PASSWORD: u8 = 2;
@@ -28,7 +28,7 @@ pub(crate) const TERMINATION_ACTION: u8 = 29;
 
 pub(crate) const PROXY_STATE: u8 = 33;
 
-// RFC 2866, section 5, and RFC 2869, section 5.
+/// RFC 2866, section 5, and RFC 2869, section 5.
 pub(crate) const ACCT_INPUT_OCTETS: u8 = 42;
 
 pub(crate) const ACCT_OUTPUT_OCTETS: u8 = 43;
@@ -43,5 +43,5 @@ pub(crate) const ACCT_INPUT_GIGAWORDS: u8 = 52;
 
 pub(crate) const ACCT_OUTPUT_GIGAWORDS: u8 = 53;
 
-// RFC 3579, section 3.1.
+/// RFC 3579, section 3.1.
 pub(crate) const EAP_MESSAGE: u8 = 79;

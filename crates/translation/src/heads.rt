@@ -18,12 +18,12 @@ use radius_packet::{Attribute, Packet};
 use session_carrier::Route;
 use wire_core::NoMemory;
 
-// Auth-Request-Types (RFC 6733, section 8.7).
+/// Auth-Request-Types (RFC 6733, section 8.7).
 const AUTHORIZE_ONLY: u32 = 2;
 
 const AUTHORIZE_AUTHENTICATE: u32 = 3;
 
-// The Origin-AAA-Protocol of RFC 4005, section 9.3.6.
+/// The Origin-AAA-Protocol of RFC 4005, section 9.3.6.
 const RADIUS: u32 = 1;
 
 /// Puts the names that a request begins with.

@@ -1,4 +1,4 @@
--- One member in the search for a fault.
+-- Internal: one member in the search for a fault.
 use Rattle.std.specs.Prelude.{ℕ, Bool, ◌&&◌, Option, Some, None, if◌then◌else◌}
 use Rattle.diameter_avp.specs.Avps.{AvpParts, is_mandatory}
 

@@ -1,4 +1,4 @@
--- The attribute of one member, where it has one.
+-- Internal: the attribute of one member, where it has one.
 use Rattle.std.specs.Prelude.{Bool, true, [], ◌∷◌, Option, Some, None}
 use Rattle.radius_packet.specs.Packet.{AttributeParts}
 use Rattle.radius_packet.specs.Seals.{ReplyParts, has_room}

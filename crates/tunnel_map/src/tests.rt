@@ -5,13 +5,13 @@ use std::alloc::Global;
 use std::test::Fail;
 use wire_core::Octets;
 
-// An Access-Request of nemo with the attributes of one tunnel.
+/// An Access-Request of nemo with the attributes of one tunnel.
 const REQUEST: &[u8] =
     b"\x01\x05\x00\x3d\x00\x01\x02\x03\x04\x05\x06\x07\x08\x09\x0a\x0b\x0c\x0d\x0e\x0f\
     \x01\x06nemo\x20\x06nas1\x05\x06\x00\x00\x00\x03\
     \x40\x06\x01\x00\x00\x03\x41\x06\x01\x00\x00\x01\x43\x0b\x0110.0.0.1";
 
-// Its group, without and with the header of the Tunneling AVP.
+/// Its group, without and with the header of the Tunneling AVP.
 const BODY: &[u8] = b"\x00\x00\x00\x40\x40\x00\x00\x0c\x00\x00\x00\x03\
     \x00\x00\x00\x41\x40\x00\x00\x0c\x00\x00\x00\x01\
     \x00\x00\x00\x43\x40\x00\x00\x1010.0.0.1";
@@ -21,14 +21,14 @@ const GROUP: &[u8] = b"\x00\x00\x01\x91\x40\x00\x00\x30\
     \x00\x00\x00\x41\x40\x00\x00\x0c\x00\x00\x00\x01\
     \x00\x00\x00\x43\x40\x00\x00\x1010.0.0.1";
 
-// An accept with its Class and these attributes; an independent MD5 signed it.
+/// An accept with its Class and these attributes; an independent MD5 signed it.
 const ACCEPT: &[u8] =
     b"\x02\x05\x00\x59\x82\xde\x54\x62\x07\x99\x8a\xf1\xc9\x27\xb9\x6d\xff\x4a\xc1\xf4\
     \x50\x12\x8e\xed\xba\xa8\x3a\x26\xf4\xdd\x12\x1a\x32\xdd\xe5\xbe\x0d\xa4\
     \x19\x1cDiameter/agent.example;7;0\
     \x40\x06\x01\x00\x00\x03\x41\x06\x01\x00\x00\x01\x43\x0b\x0110.0.0.1";
 
-// The tags 2, 0 and 1 between each other, a Tunnel-Password, and a number whose first octet is no tag.
+/// The tags 2, 0 and 1 between each other, a Tunnel-Password, and a number whose first octet is no tag.
 const MIXED: &[u8] =
     b"\x01\x05\x00\x69\x00\x01\x02\x03\x04\x05\x06\x07\x08\x09\x0a\x0b\x0c\x0d\x0e\x0f\
     \x01\x06nemo\x40\x06\x02\x00\x00\x03\x42\x0a10.0.0.2\x40\x06\x01\x00\x00\x01\
@@ -37,7 +37,7 @@ const MIXED: &[u8] =
 
 const COUNTING: [u8; 16] = [0, 1, 2, 3, 4, 5, 6, 7, 8, 9, 10, 11, 12, 13, 14, 15];
 
-// The attributes that a group gives, behind those that the reply has.
+/// The attributes that a group gives, behind those that the reply has.
 fn push_checked(reply: &mut Reply, body: &[u8], tag: u8) -> Result<(), Fail> {
     check_group(body, tag)?;
     push_group(reply, body, tag)?;
@@ -293,7 +293,7 @@ fn pushes_attributes(rt: HostRuntime) -> Result<(), Fail> {
     Ok(())
 }
 
-// A Tunnel-Type, a Tunnel-Client-Endpoint and a Tunnel-Medium-Type.
+/// A Tunnel-Type, a Tunnel-Client-Endpoint and a Tunnel-Medium-Type.
 fn with_endpoint(alloc: Global, endpoint: &[u8]) -> Result<Octets, Fail> {
     let mut writer = AvpWriter::new(alloc, b"")?;
     writer.put(64, None, true, b"\x00\x00\x00\x03")?;
@@ -319,7 +319,7 @@ fn long_texts(rt: HostRuntime) -> Result<(), Fail> {
     Ok(())
 }
 
-// 251 octets are left, which hold the first and the third attribute: only the first is pushed.
+/// 251 octets are left, which hold the first and the third attribute: only the first is pushed.
 #[test]
 fn fills_a_reply(rt: HostRuntime) -> Result<(), Fail> {
     let group = with_endpoint(rt.alloc(), &[b'a'; 252])?;

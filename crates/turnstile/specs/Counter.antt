@@ -1,4 +1,4 @@
--- A desk that adds up what is asked, modulo 2^64, and refuses the number 0, for the tests.
+-- Internal: a desk that adds up what is asked, modulo 2^64, and refuses the number 0, for the tests.
 use Rattle.std.specs.Prelude.{◌≡◌, ℕ, ◌+◌, ◌%◌, ◌^◌, ◌<◌, List, [], ◌∷◌, Option, Some, None}
 
 -- the sum after what was asked

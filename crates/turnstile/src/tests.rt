@@ -8,7 +8,7 @@ use std::sync::Wait;
 use std::test::Fail;
 use std::thread::{Threads, join};
 
-// It adds up what is asked, modulo 2^64, answers the sum so far, and refuses the number 0.
+/// It adds up what is asked, modulo 2^64, answers the sum so far, and refuses the number 0.
 #[derive(Drop)]
 struct Counter {
     sum: u64,
@@ -41,7 +41,7 @@ impl Desk for Counter {
 
 type Reply = Result<u64, Zero>;
 
-// Visits with 5, 0 and 7. The pass's own turns are three more, and a refused one is blank.
+/// Visits with 5, 0 and 7. The pass's own turns are three more, and a refused one is blank.
 fn three_visits<R: Wait>(
     rt: &R,
     turnstile: &Turnstile<Counter>,
@@ -58,7 +58,7 @@ fn three_visits<R: Wait>(
     (first, second, third)
 }
 
-// Two passes visit once each. In the end each one's turn stands under its own number, and nothing else was added there.
+/// Two passes visit once each. In the end each one's turn stands under its own number, and nothing else was added there.
 fn end_of_two<R: Wait>(
     rt: &R,
     turnstile: &Turnstile<Counter>,

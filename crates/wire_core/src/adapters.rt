@@ -58,7 +58,7 @@ impl<R: Read> Source for ReaderSource<R> {
     }
 }
 
-// One read, tried again where a signal interrupts it.
+/// One read, tried again where a signal interrupts it.
 fn read_uninterrupted<R: Read>(reader: &mut R, buf: &mut [u8]) -> Option<usize>
     ensures { IfSome result (λ n. n ≤ length buf.new) }
 {

@@ -269,7 +269,7 @@ impl Sink for MemorySink {
     }
 }
 
-// Whether this call is one of those that are to fail.
+/// Whether this call is one of those that are to fail.
 fn is_to_fail(call: usize, failing: &[usize]) -> bool
     ensures { result ≡ is_listed call failing.now }
 {

@@ -10,7 +10,7 @@ fn put<K: Sink>(output: &mut K, piece: &[u8]) -> Put {
     output.write(piece)
 }
 
-// An address, the port of RADIUS, a command code and 2^32, as they stand on the wire.
+/// An address, the port of RADIUS, a command code and 2^32, as they stand on the wire.
 #[test]
 fn numbers_on_the_wire(rt: HostRuntime) {
     let wire = *b"\xc0\x00\x02\x01\x07\x14\x00\x01\x09\x00\x00\x00\x01\x00\x00\x00\x00";
@@ -41,7 +41,7 @@ fn octets_and_names(rt: HostRuntime) -> Result<(), Fail> {
     Ok(())
 }
 
-// Each call fails, is interrupted or moves one octet, by its number. The second flush fails.
+/// Each call fails, is interrupted or moves one octet, by its number. The second flush fails.
 #[derive(Drop)]
 struct Flaky {
     calls: u8,

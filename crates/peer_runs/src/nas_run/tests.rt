@@ -13,12 +13,12 @@ use std::test::Fail;
 use wire_core::{MemorySink, NoMemory, Octets, SteadySource};
 use wire_devices::{Datagram, Datagrams, MemoryClock, MemoryDatagrams, SteadyDatagrams};
 
-// Where the packets are sent.
+/// Where the packets are sent.
 const ADDRESS: u32 = 0x7f00_0001;
 
 const PORT: u16 = 1812;
 
-// The Access-Request and the Access-Accept of RFC 2865, section 7.1.
+/// The Access-Request and the Access-Accept of RFC 2865, section 7.1.
 const REQUEST: &[u8] = b"\
 \x01\0\0\x38\x0f\x40\x3f\x94\x73\x97\x80\x57\xbd\x83\xd5\xcb\x98\xf4\x22\x7a\
 \x01\x06nemo\
@@ -41,7 +41,7 @@ const ACCEPT_LINE: &[u8] =
 
 const NONE_LINE: &[u8] = b"none\n";
 
-// The run of clients with a patience of 1200 ms.
+/// The run of clients with a patience of 1200 ms.
 fn run_of<R: Wait, D: Datagrams>(
     rt: &R,
     alloc: Global,
@@ -64,7 +64,7 @@ fn run_of<R: Wait, D: Datagrams>(
     Ok(status)
 }
 
-// The third look finds the reply.
+/// The third look finds the reply.
 fn third_look(alloc: Global) -> Result<VecDeque<Option<Datagram>>, NoMemory> {
     let mut looks = VecDeque::new(alloc);
     looks.push_back(None)?;
@@ -88,7 +88,7 @@ fn is_request_twice(handed: Option<&[Datagram]>) -> bool {
     }
 }
 
-// A socket of which the first so many receives fail, and whose looks find nothing.
+/// A socket of which the first so many receives fail, and whose looks find nothing.
 fn failing_socket(alloc: Global, count: usize) -> Result<MemoryDatagrams, NoMemory>
     ensures { IfOk result (λ socket. socket.row ≡ 0) }
 {
@@ -113,7 +113,7 @@ fn a_reply_at_the_second_try(rt: HostRuntime) -> Result<(), Fail> {
     Ok(())
 }
 
-// The first line is given up at its second step, and the second line is no packet.
+/// The first line is given up at its second step, and the second line is no packet.
 #[test]
 fn a_bad_second_line(rt: HostRuntime) -> Result<(), Fail> {
     let alloc = rt.alloc();
@@ -128,7 +128,7 @@ fn a_bad_second_line(rt: HostRuntime) -> Result<(), Fail> {
     Ok(())
 }
 
-// Of the 16 receives in a row that fail, the first is the first line's, and the others are the second line's.
+/// Of the 16 receives in a row that fail, the first is the first line's, and the others are the second line's.
 #[test]
 fn failures_are_counted_over_lines(rt: HostRuntime) -> Result<(), Fail> {
     let alloc = rt.alloc();

@@ -5,7 +5,7 @@ use crate::generate_fault::GenerateFault;
 use std::test::Fail;
 use wire_core::MemorySink;
 
-// A login whose request comes once and is accepted.
+/// A login whose request comes once and is accepted.
 const ONE_LOGIN: &str = "\
 agent agent.example example example 192.0.2.1 0 1000 64 64 30000
 client gen 10.0.0.1 736563726574 gen.example example plain refuse -
@@ -15,7 +15,7 @@ client gen 10.0.0.1 736563726574 gen.example example plain refuse -
 0 drain
 ";
 
-// How the lines of four logins begin: the third request comes again after its answer, the fourth before it.
+/// How the lines of four logins begin: the third request comes again after its answer, the fourth before it.
 const FOUR_LOGINS: [&str; 17] = [
     "agent agent.example example example 192.0.2.1 0 1000 64 64 30000",
     "client gen 10.0.0.1 736563726574 gen.example example plain refuse -",
@@ -57,7 +57,7 @@ fn four_logins(rt: HostRuntime) -> Result<(), Fail> {
     Ok(())
 }
 
-// The second write fails, and half of its line was written.
+/// The second write fails, and half of its line was written.
 #[test]
 fn refused_write(rt: HostRuntime) -> Result<(), Fail> {
     let mut sink = MemorySink::new(rt.alloc(), 1_024, &[1])?;
