@@ -20,7 +20,7 @@ use Rattle.agent_server.specs.declared.heard.Heard.{Heard}
 use Rattle.agent_server.specs.declared.link_reader.Visitor.{Visitor}
 use Rattle.agent_server.specs.Entries.{Less, RunTurn, blanks, downs, entry_replies, is_blank, is_down, is_entry_of, is_tick, reply_by, ticks, turn_of}
 use Rattle.agent_server.specs.Entries.Less.{empty, loses}
-use Rattle.agent_server.specs.LinkReading.{AddsSome, Did, EndsAt, HasEnded, KeepsReading, LinkMayAsk, LinkMayTake, Reads, Sight, Visits, entry_framed, framed, framed_in, is_framed, is_last_of, missed}
+use Rattle.agent_server.specs.LinkReading.{AddsSome, Did, EndsAt, HasEnded, KeepsReading, LinkMayAsk, LinkMayTake, ReadsOctets, Sight, Visits, entry_framed, framed, framed_in, is_framed, is_last_of, missed}
 use Rattle.agent_server.proofs.EntryLemmas.{less-append, less-same}
 use Rattle.agent_server.proofs.GoingLemmas.{went-on}
 
@@ -144,8 +144,8 @@ count-push test mine turn = sum_by-append (λ t. cond (test t) 1 0) mine (turn �
 
 -- a turn more, and how the link went on beside it
 reads-turn : (mine : List RunTurn) (got : List ℕ) (heeded : List Input) (start link link' : Inlet) (out again looks retries : ℕ) (ask : Input) (heard : Option Heard)
-    → Reads mine got heeded start link out again → Beside ask looks retries link link'
-    → Reads (mine ++ turn_of ask heard ∷ []) got (heeded ++ framed_in ask) start link' (out + number (missed ask heard)) (again + retries)
+    → ReadsOctets mine got heeded start link out again → Beside ask looks retries link link'
+    → ReadsOctets (mine ++ turn_of ask heard ∷ []) got (heeded ++ framed_in ask) start link' (out + number (missed ask heard)) (again + retries)
 reads-turn mine got heeded start link link' out again looks retries ask heard reads beside =
     let turn = turn_of ask heard in
     let add = adding ask heard in

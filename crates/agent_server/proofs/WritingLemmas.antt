@@ -12,7 +12,7 @@ use Rattle.peer_machine.specs.declared.LinkCause.{LinkCause}
 use Rattle.agent_core.specs.declared.events.Input.{Input}
 use Rattle.agent_core.specs.declared.events.Input.TheVariants.{Down, Drain, Leave}
 use Rattle.agent_core.specs.declared.events.Output.{Output}
-use Rattle.agent_core.specs.declared.events.Output.TheVariants.{Send}
+use Rattle.agent_core.specs.declared.events.Output.TheVariants.{Closed as Shut, Dropped, Reply, Send}
 use Rattle.turnstile.specs.declared.view.Known.{Known}
 use Rattle.turnstile.specs.Turns.{StartsWith}
 use Rattle.agent_server.specs.declared.desk.AgentDesk.{AgentDesk}
@@ -54,22 +54,6 @@ starts-on xs ys us vs false whole none (rest, is) two = (
 )
 
 -- ---- sending
-
--- a send that failed
-pub sent-failed : (put : Put) (octets : List ℕ) (o p : Outlet) → put ≢ puts.Done → Speaks put o p octets
-    → SentOn false (Send octets ∷ []) o p
-sent-failed puts.Done octets o p failed spoke = absurd (failed refl)
-sent-failed puts.Failed octets o p failed spoke =
-    let rose : p.faults ≡ one_more o.faults = spoke.faults.rises tt in
-    record {
-      sent = take spoke.handed.count octets;
-      handed = spoke.handed.adds;
-      all = λ is. absurd (true≢false (sym is));
-      part = λ is. (
-        (drop spoke.handed.count octets, append-nil octets ∙ sym (take-append-drop spoke.handed.count octets)),
-        omega (arith, rose),
-      );
-    }
 
 -- what was sent, and then some more
 sent-on : (whole : Bool) (xs ys : List Output) (o p q : Outlet) → SentOn true xs o p → SentOn whole ys p q
@@ -116,6 +100,51 @@ sent-next whole outputs i x o p q inside is so_far one =
 pub sent-stopped : (outputs : List Output) (n : ℕ) (o p : Outlet) → SentOn false (take n outputs) o p → SentOn false outputs o p
 sent-stopped outputs n o p so_far =
     subst (λ os. SentOn false os o p) (take-append-drop n outputs) (sent-part (take n outputs) (drop n outputs) o p so_far)
+
+-- one message more stands behind the others
+pub octets-next : (outputs : List Output) (i : ℕ) (x : Output) (piece : List ℕ) → i < length outputs → x ≡ get_or outputs i x
+    → piece ≡ octets_in (take i outputs) → piece ++ octets_of x ≡ octets_in (take (i + 1) outputs)
+octets-next outputs i x piece inside is so_far =
+    let items : take i outputs ++ x ∷ [] ≡ take (i + 1) outputs =
+    ap (λ y. take i outputs ++ y ∷ []) is ∙ sym (take_more outputs i x inside) in
+    ap (λ bs. bs ++ octets_of x) so_far ∙ ap (λ bs. octets_in (take i outputs) ++ bs) (sym (append-nil (octets_of x)))
+    ∙ sym (octets_in-append (take i outputs) (x ∷ [])) ∙ ap octets_in items
+
+-- what is no message has no octets
+pub octets-none : (x : Output) → ((octets : List ℕ) → x ≡ Send octets → ⊥) → octets_of x ≡ []
+octets-none (Send octets) not = absurd (not octets refl)
+octets-none (Reply via address port octets) not = refl
+octets-none (Shut cause) not = refl
+octets-none (Dropped reason) not = refl
+
+-- all in one piece
+pub sent-whole : (outputs : List Output) (o p : Outlet) → Speaks puts.Done o p (octets_in outputs) → SentOn true outputs o p
+sent-whole outputs o p spoke =
+    record {
+      sent = octets_in outputs;
+      handed = spoke.handed;
+      all = λ is. (refl, spoke.faults.stays (λ failed. failed));
+      part = λ is. absurd (true≢false is);
+    }
+
+pub sent-cut : (put : Put) (outputs : List Output) (o p : Outlet) → put ≢ puts.Done → Speaks put o p (octets_in outputs)
+    → SentOn false outputs o p
+sent-cut puts.Done outputs o p failed spoke = absurd (failed refl)
+sent-cut puts.Failed outputs o p failed spoke =
+    let octets = octets_in outputs in
+    let rose : p.faults ≡ one_more o.faults = spoke.faults.rises tt in
+    record {
+      sent = take spoke.handed.count octets;
+      handed = spoke.handed.adds;
+      all = λ is. absurd (true≢false (sym is));
+      part = λ is. ((drop spoke.handed.count octets, sym (take-append-drop spoke.handed.count octets)), omega (arith, rose));
+    }
+
+-- one message, whose send failed
+pub sent-failed : (put : Put) (octets : List ℕ) (o p : Outlet) → put ≢ puts.Done → Speaks put o p octets
+    → SentOn false (Send octets ∷ []) o p
+sent-failed put octets o p failed spoke =
+    sent-cut put (Send octets ∷ []) o p failed (subst (λ bs. Speaks put o p bs) (sym (append-nil octets)) spoke)
 
 -- ---- entries
 

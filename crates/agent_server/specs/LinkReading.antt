@@ -56,12 +56,12 @@ LinkMayAsk ask = ⊥
 -- ---- answers
 
 -- after such an answer the reader stops
-abbrev pub is_last : Heard → Bool
-is_last heard = heard.finished || is_some heard.closed
+abbrev pub is_links_last : Heard → Bool
+is_links_last heard = heard.finished || is_some heard.closed
 
 abbrev pub is_last_of : Option Heard → Bool
 is_last_of None = false
-is_last_of (Some heard) = is_last heard
+is_last_of (Some heard) = is_links_last heard
 
 -- ---- turns
 
@@ -80,7 +80,7 @@ LinkMayTake (Some entry) = LinkMayAsk entry.0
 -- after this turn the reader goes on
 abbrev pub KeepsReading : RunTurn → Type 0
 KeepsReading None = Unit {0}
-KeepsReading (Some entry) = is_last entry.1 ≡ false
+KeepsReading (Some entry) = is_links_last entry.1 ≡ false
 
 -- the last turn is the first entry after whose answer the reader stops, and its ask has P
 pub record EndsAt (P : Input → Type 0) (turns : List RunTurn) : Type 0 where
@@ -89,7 +89,7 @@ pub record EndsAt (P : Input → Type 0) (turns : List RunTurn) : Type 0 where
   pub ask : Input
   pub heard : Heard
   pub whole : turns ≡ front ++ Some (ask, heard) ∷ []
-  pub last : is_last heard ≡ true
+  pub last : is_links_last heard ≡ true
   pub has : P ask
 
 -- ---- a reader
@@ -105,7 +105,7 @@ HasEnded link = 0 < link.ends + link.faults
 -- A reader took these turns and received these octets. It heeded these inputs of their stream: each was entered, but for so
 -- many that are lost, each with a blank turn. So many Ticks were asked because the framer found no memory, and each of
 -- these took a turn.
-pub record Reads (mine : List RunTurn) (got : List ℕ) (heeded : List Input) (before now : Inlet) (out retries : ℕ) : Type 0 where
+pub record ReadsOctets (mine : List RunTurn) (got : List ℕ) (heeded : List Input) (before now : Inlet) (out retries : ℕ) : Type 0 where
   pub looks : ℕ
   pub received : Adds before.received now.received got
   pub idle : AddsSome before.idle now.idle looks
@@ -128,7 +128,7 @@ pub record ServedLink (mine : List RunTurn) (before now : Inlet) (out retries : 
   pub heeded : List Input
   pub left_out : List Input
   pub whole : stream_inputs messages fault ≡ heeded ++ left_out
-  pub reads : Reads mine got heeded before now out retries
+  pub reads : ReadsOctets mine got heeded before now out retries
   pub ends : EndsAt (λ ask. left_out ≢ [] → (is_message ask ≡ true) ⊎ (0 < retries)) mine
 
 -- ---- with the pass, and what is counted
@@ -187,7 +187,7 @@ module _ {C D : Type 0} (told : D → Socket) where
     pub out : ℕ
     pub retries : ℕ
     pub went : Went mine start.known (known visitor.pass)
-    pub reads : Reads mine got heeded start.link link out retries
+    pub reads : ReadsOctets mine got heeded start.link link out retries
     pub lost_is : visitor.lost ≡ min out (2 ^ 64 - 1)
     pub again_is : visitor.again ≡ min retries (2 ^ 64 - 1)
     pub auth : Adds start.auth.handed (told visitor.auth_twin).handed (replies_by Auth mine)

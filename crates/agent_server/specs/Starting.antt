@@ -1,4 +1,4 @@
--- How a run starts and how it ends: what is at hand before its first link, what came of that link and of the starts of the
+-- Internal: how a run starts and how it ends: what is at hand before its first link, what came of that link and of the starts of the
 -- workers, and what is known when all workers are done.
 use Rattle.std.specs.Prelude.{◌≡◌, ℕ, ◌<◌, ◌≤◌, ◌⊎◌, false, List, [], ◌∷◌, Option, Result, Ok, Err, vec_capacity}
 use Rattle.std.specs.Arc.{arc_value}

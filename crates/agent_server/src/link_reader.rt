@@ -7,7 +7,7 @@ ghost use Rattle.turnstile.specs.Passes.{known, table_of};
 ghost use Rattle.wire_devices.specs.Links.{Inlet};
 ghost use Rattle.wire_devices.specs.Telling.{Adds};
 ghost use Rattle.agent_server.specs.Entries.{reply_by};
-ghost use Rattle.agent_server.specs.LinkReading.{Gives, HeededAll, ReadsLink, Sight, SoFar, Stops, Visits, is_framed as framed_test, is_last as last_test, sight};
+ghost use Rattle.agent_server.specs.LinkReading.{Gives, HeededAll, ReadsLink, Sight, SoFar, Stops, Visits, is_framed as framed_test, is_links_last as last_test, sight};
 
 use crate::desk::AgentDesk;
 use crate::heard::Heard;

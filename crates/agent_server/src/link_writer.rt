@@ -1,7 +1,8 @@
 //! The writer of a link.
 
-ghost use Rattle.std.specs.Prelude.{◌≡◌, [], ◌∷◌, true, false, None, IfSome, IfNone};
+ghost use Rattle.std.specs.Prelude.{◌≡◌, [], ◌∷◌, true, false, None, IfOk, IfSome, IfNone};
 ghost use Rattle.turnstile.specs.Passes.{known, table_of};
+ghost use Rattle.agent_server.specs.Entries.{octets_in};
 ghost use Rattle.agent_server.specs.LinkWriting.{GoesFor, SentOn, TakesLeave, TookLeave, WroteLink, WroteRound};
 
 use crate::desk::AgentDesk;
@@ -9,6 +10,7 @@ use crate::heard::Heard;
 use crate::turns::{enter, is_final};
 use agent_core::{Input, Output};
 use peer_machine::LinkCause;
+use std::alloc::{AllocError, Global};
 use std::sync::Wait;
 use turnstile::{Pass, Turnstile};
 use wire_core::Put;
@@ -54,8 +56,8 @@ fn send_one<O: LinkOut>(link: &mut O, output: &Output) -> bool
     }
 }
 
-/// Sends these on the link, in order, until a send fails. It says whether none failed.
-fn send_all<O: LinkOut>(link: &mut O, outputs: &[Output]) -> bool
+/// Sends these on the link, one after another, until a send fails. It says whether none failed.
+fn send_each<O: LinkOut>(link: &mut O, outputs: &[Output]) -> bool
     ensures { SentOn result outputs.now (O.told link.old) (O.told link.new) }
 {
     for output in outputs {
@@ -66,10 +68,37 @@ fn send_all<O: LinkOut>(link: &mut O, outputs: &[Output]) -> bool
     true
 }
 
+/// The messages among these, one behind another.
+fn joined(alloc: Global, outputs: &[Output]) -> Result<Vec<u8>, AllocError>
+    ensures { IfOk result (λ piece. piece.items ≡ octets_in outputs.now) }
+{
+    let mut piece = Vec::new(alloc);
+    for output in outputs {
+        if let Output::Send { octets } = output {
+            piece.extend_from_slice(octets.as_slice())?;
+        }
+    }
+    Ok(piece)
+}
+
+/// Sends these on the link, in order: several in one piece, which is a call of the system less for each, where there is
+/// memory for it. It says whether no send failed.
+fn send_all<O: LinkOut>(alloc: Global, link: &mut O, outputs: &[Output]) -> bool
+    ensures { SentOn result outputs.now (O.told link.old) (O.told link.new) }
+{
+    if outputs.len() > 1 {
+        if let Ok(piece) = joined(alloc, outputs) {
+            return matches!(link.send(piece.as_slice()), Put::Done);
+        }
+    }
+    send_each(link, outputs)
+}
+
 /// One round: drains, and sends what is handed over, where the link is sound. Where a send fails it isn't sound any more, and
 /// a visit says so.
 fn drain<R: Wait, C: Clock, O: LinkOut>(
     rt: &R,
+    alloc: Global,
     turnstile: &Turnstile<AgentDesk<C>>,
     pass: &mut Pass<AgentDesk<C>>,
     link: &mut O,
@@ -80,7 +109,7 @@ fn drain<R: Wait, C: Clock, O: LinkOut>(
     ensures wrote { WroteRound result sound.old sound.new (known pass.old) (known pass.new) (O.told link.old) (O.told link.new) }
 {
     let heard = enter(rt, turnstile, pass, &Input::Drain)?;
-    if *sound && !send_all(link, heard.sends.as_slice()) {
+    if *sound && !send_all(alloc, link, heard.sends.as_slice()) {
         *sound = false;
         let _ = enter(rt, turnstile, pass, &Input::Down);
     }
@@ -90,6 +119,7 @@ fn drain<R: Wait, C: Clock, O: LinkOut>(
 /// Takes the agent's leave, and drains once more.
 fn leave<R: Wait, C: Clock, O: LinkOut>(
     rt: &R,
+    alloc: Global,
     turnstile: &Turnstile<AgentDesk<C>>,
     pass: &mut Pass<AgentDesk<C>>,
     link: &mut O,
@@ -102,7 +132,7 @@ fn leave<R: Wait, C: Clock, O: LinkOut>(
     let Some(_) = enter(rt, turnstile, pass, &Input::Leave) else {
         return WriterEnd::NoMemory;
     };
-    match drain(rt, turnstile, pass, link, sound) {
+    match drain(rt, alloc, turnstile, pass, link, sound) {
         Some(_) => WriterEnd::Done,
         None => WriterEnd::NoMemory,
     }
@@ -111,6 +141,7 @@ fn leave<R: Wait, C: Clock, O: LinkOut>(
 /// Drains and sends round by round, until the link is closed. Where the run is finished it takes the agent's leave.
 pub(crate) fn write_link<R: Wait, C: Clock, O: LinkOut>(
     rt: &R,
+    alloc: Global,
     turnstile: &Turnstile<AgentDesk<C>>,
     pass: &mut Pass<AgentDesk<C>>,
     link: &mut O,
@@ -121,7 +152,7 @@ pub(crate) fn write_link<R: Wait, C: Clock, O: LinkOut>(
 {
     let mut sound = true;
     for _ in rt.forever() {
-        let Some(heard) = drain(rt, turnstile, pass, link, &mut sound) else {
+        let Some(heard) = drain(rt, alloc, turnstile, pass, link, &mut sound) else {
             link.rest();
             continue;
         };
@@ -129,7 +160,7 @@ pub(crate) fn write_link<R: Wait, C: Clock, O: LinkOut>(
             return WriterEnd::Closed { cause };
         }
         if heard.finished {
-            return leave(rt, turnstile, pass, link, &mut sound);
+            return leave(rt, alloc, turnstile, pass, link, &mut sound);
         }
         if heard.sends.as_slice().is_empty() {
             link.rest();

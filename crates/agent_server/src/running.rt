@@ -150,9 +150,19 @@ where
     }
 }
 
+/// Lets a link go that was closed. One that the agent left is the home server's to close.
+fn let_go<O: LinkOut>(end: WriterEnd, link_out: &mut O)
+    ensures { O.told link_out.new ≡ O.told link_out.old }
+{
+    if let WriterEnd::Closed { .. } = end {
+        link_out.close();
+    }
+}
+
 /// Goes through a link until it is closed or left, and then waits for its reader.
 fn serve_link<R, C, D, I, O, W>(
     rt: &R,
+    alloc: Global,
     turnstile: &Shared<C>,
     pass: &mut Pass<AgentDesk<C>>,
     crew: &mut W,
@@ -176,7 +186,8 @@ where
         helper,
         mut link_out,
     } = live;
-    let end = write_link(rt, turnstile, pass, &mut link_out);
+    let end = write_link(rt, alloc, turnstile, pass, &mut link_out);
+    let_go(end, &mut link_out);
     let back = reader_back(crew, helper);
     let twins = put_past(turnstile, pass, back, link_out, past);
     (end, twins)
@@ -422,7 +433,7 @@ where
 {
     let mut live = first;
     for _ in rt.forever() {
-        let (end, twins) = serve_link(rt, turnstile, pass, crew, live, past);
+        let (end, twins) = serve_link(rt, alloc, turnstile, pass, crew, live, past);
         if let Some(end) = end_after(end) {
             return (end, twins);
         }

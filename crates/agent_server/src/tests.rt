@@ -56,8 +56,8 @@ fn told(heard: &Heard) -> (u64, usize, usize, bool, bool) {
     )
 }
 
-// The clock goes back once. The capabilities go out at the Up, and are handed over at the Drain; a Down closes the link,
-// until the next Up; the last reading is at the end of the run.
+/// The clock goes back once. The capabilities go out at the Up, and are handed over at the Drain; a Down closes the link,
+/// until the next Up; the last reading is at the end of the run.
 #[test]
 fn turns_at_a_desk(rt: HostRuntime) -> Result<(), Fail> {
     let core = Core::new(rt.alloc(), RandomState::new(&rt)?, settings(rt.alloc())?)?;

@@ -96,6 +96,10 @@ pub trait LinkOut {
     /// May pause, where nothing is to be sent.
     fn rest(&mut self)
         ensures { told self.new ≡ told self.old };
+
+    /// Lets the link go: the other side may learn that nothing more comes.
+    fn close(&mut self)
+        ensures { told self.new ≡ told self.old };
 }
 
 /// Makes links to one place.

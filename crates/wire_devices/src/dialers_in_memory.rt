@@ -41,7 +41,7 @@ impl SteadyLine {
         }
     }
 
-    // A link that ends at once.
+    /// A link that ends at once.
     fn ended(alloc: Global) -> SteadyLine
         ensures { result ≡ empty_script }
     {

@@ -10,10 +10,10 @@ use std::net::{IpAddr, Ipv4Addr, Net, SocketAddr, TcpListener, TcpStream};
 use std::time::Duration;
 use std::{io, rt, thread};
 
-// How long a dial waits for an answer, in milliseconds.
+/// How long a dial waits for an answer, in milliseconds.
 const PATIENCE: u64 = 8_000;
 
-// The least and the longest pause, in milliseconds.
+/// The least and the longest pause, in milliseconds.
 const SHORT_PAUSE: u64 = 100;
 
 const LONG_PAUSE: u64 = 8_000;
@@ -25,7 +25,7 @@ pub struct TcpDialer<R> {
     rt: R,
     address: u32,
     port: u16,
-    // The pause after the next dial that is refused, in milliseconds.
+    /// The pause after the next dial that is refused, in milliseconds.
     pause: u64,
     refusal: Option<ErrorKind>,
     faults: u64,

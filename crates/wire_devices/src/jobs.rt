@@ -83,7 +83,7 @@ pub trait Crew<J: Job> {
     }
 }
 
-// The job that a thread's result is held to.
+/// The job that a thread's result is held to.
 #[derive(Drop)]
 struct Held<J>(Snapshot<J>);
 
@@ -95,7 +95,7 @@ impl<J: Job> Promise<Result<J::Done, J>> for Held<J> {
 #[derive(Drop)]
 pub struct ThreadHelper<J: Job> {
     job: Snapshot<J>,
-    // The thread, which gives what came of the job, or the job where it didn't run it; or what came of it.
+    /// The thread, which gives what came of the job, or the job where it didn't run it; or what came of it.
     state: Result<PromisedHandle<Result<J::Done, J>, Held<J>>, J::Done>,
 }
 
@@ -107,8 +107,8 @@ impl<J: Job> Model for ThreadHelper<J> {
     ghost invariant = { λ h. J.can h.job.value × MatchResult h.state (λ thread. thread.promise.0.value ≡ h.job.value) (λ done. J.gives h.job.value done) };
 }
 
-// Starts a thread that does the job. Where none can be made the job comes back, since the flag is lowered before the
-// thread's closure is called here.
+/// Starts a thread that does the job. Where none can be made the job comes back, since the flag is lowered before the
+/// thread's closure is called here.
 fn begin<R: Threads + Wait + Copy + Send + 'static, J: Job>(
     rt: R,
     alloc: Global,
@@ -154,7 +154,7 @@ fn begin<R: Threads + Wait + Copy + Send + 'static, J: Job>(
     }
 }
 
-// Waits for the thread. A job that it gave back is run here.
+/// Waits for the thread. A job that it gave back is run here.
 fn end<R: Threads + Wait, J: Job>(rt: &R, helper: ThreadHelper<J>) -> J::Done
     ensures { J.gives helper result }
 {

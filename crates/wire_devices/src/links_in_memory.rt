@@ -84,7 +84,7 @@ impl LinkIn for SteadyLinkIn {
     }
 }
 
-// Whether a look finds nothing, though something may be left.
+/// Whether a look finds nothing, though something may be left.
 fn is_quiet(look: Option<usize>) -> bool
     ensures { result ≡ is_quiet look }
 {
@@ -182,7 +182,7 @@ impl SteadyLinkOut {
         }
     }
 
-    // Keeps these octets too, where there is room.
+    /// Keeps these octets too, where there is room.
     fn keep(&mut self, octets: &[u8])
         ensures told { IfSome self.old.handed (λ xs. length xs + length octets.now ≤ self.old.room → self.new.handed ≡ Some (xs ++ octets.now)) }
         ensures room { self.old.room ≤ self.new.room }
@@ -209,6 +209,11 @@ impl LinkOut for SteadyLinkOut {
     fn rest(&mut self)
         ensures same { self.new ≡ self.old }
         ensures rests { told_of_wall self.new 0 ≡ told_of_wall self.old 0 }
+    {}
+
+    fn close(&mut self)
+        ensures same { self.new ≡ self.old }
+        ensures closes { told_of_wall self.new 0 ≡ told_of_wall self.old 0 }
     {}
 }
 
@@ -270,5 +275,10 @@ impl LinkOut for MemoryLinkOut {
     fn rest(&mut self)
         ensures same { self.new ≡ self.old }
         ensures rests { told_of_planned_wall self.new ≡ told_of_planned_wall self.old }
+    {}
+
+    fn close(&mut self)
+        ensures same { self.new ≡ self.old }
+        ensures closes { told_of_planned_wall self.new ≡ told_of_planned_wall self.old }
     {}
 }

@@ -7,7 +7,7 @@ ghost use Rattle.wire_devices.specs.Forms.{plan_of, is_due, next_call};
 use std::collections::VecDeque;
 use std::marker::Model;
 
-// The numbers of the calls that are to fail, counted from 0.
+/// The numbers of the calls that are to fail, counted from 0.
 #[derive(Debug, Drop)]
 pub(crate) struct CallPlan {
     failing: Vec<usize>,
@@ -29,7 +29,7 @@ impl CallPlan {
         CallPlan { failing, calls: 0 }
     }
 
-    // Whether the next call is to fail.
+    /// Whether the next call is to fail.
     pub(crate) fn fails(&mut self) -> bool
         ensures answer { result ≡ is_due self.old }
         ensures next { self.new ≡ next_call self.old }
@@ -40,7 +40,7 @@ impl CallPlan {
     }
 }
 
-// One more, as long as it can be counted.
+/// One more, as long as it can be counted.
 pub(crate) fn counted_on(count: Option<u64>) -> Option<u64>
     ensures { AddsOne count result }
 {
@@ -52,7 +52,7 @@ pub(crate) fn counted_on(count: Option<u64>) -> Option<u64>
     }
 }
 
-// The next of the looks, or None where they are used up.
+/// The next of the looks, or None where they are used up.
 pub(crate) fn next_look<T>(looks: &mut VecDeque<T>) -> Option<T>
     ensures look { result ≡ slice_get looks.old.items 0 }
     ensures rest { looks.new.items ≡ drop 1 looks.old.items }

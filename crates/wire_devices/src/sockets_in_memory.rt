@@ -61,7 +61,7 @@ impl SteadyDatagrams {
         }
     }
 
-    // Keeps what `send` was handed.
+    /// Keeps what `send` was handed.
     fn hand(&mut self, address: u32, port: u16, octets: &[u8])
         ensures handed { Adds self.old.handed self.new.handed (datagram address port octets.now ∷ []) }
         ensures same { self.new ≡ record self.old { handed = self.new.handed } }
@@ -122,7 +122,7 @@ impl Datagrams for SteadyDatagrams {
     }
 }
 
-// Puts these octets at the front of the buffer, as many as fit, and tells how many.
+/// Puts these octets at the front of the buffer, as many as fit, and tells how many.
 fn fill(buf: &mut [u8], octets: &[u8]) -> usize
     ensures length { result ≡ min (length octets.now) (length buf.old) }
     ensures filled { buf.new ≡ overlaid octets.now buf.old }
@@ -132,7 +132,7 @@ fn fill(buf: &mut [u8], octets: &[u8]) -> usize
     length
 }
 
-// What was kept with one datagram more, as long as there is memory for it.
+/// What was kept with one datagram more, as long as there is memory for it.
 fn keep(
     alloc: Global,
     kept: Option<Vec<Datagram>>,

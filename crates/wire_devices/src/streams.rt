@@ -8,15 +8,19 @@ use crate::devices::{LinkGot, LinkIn, LinkOut};
 use crate::udp::{LOOK, is_nothing};
 use std::io::{Read, Write};
 use std::marker::Model;
-use std::net::TcpStream;
+use std::net::{Shutdown, TcpStream};
 use std::time::Duration;
 use std::{io, rt, thread};
 use wire_core::Put;
 
-// How long a send may wait for the other side, in milliseconds.
+/// How long a send may wait for the other side, in milliseconds.
 const PATIENCE: u64 = 8_000;
 
-// The least and the longest pause, in microseconds.
+/// So many rests behind a send only let other threads go first: what follows a send mostly follows soon, and the system's
+/// shortest sleep is longer than that.
+const SHORT_RESTS: u32 = 64;
+
+/// The least and the longest pause, in microseconds.
 const SHORT_PAUSE: u64 = 16;
 
 const LONG_PAUSE: u64 = 1_000;
@@ -56,7 +60,7 @@ impl LinkIn for TcpIn {
     }
 }
 
-// One look at the stream.
+/// One look at the stream.
 fn look(stream: &mut TcpStream, buf: &mut [u8]) -> LinkGot
     ensures { Within result (length buf.new) }
 {
@@ -83,7 +87,9 @@ fn look(stream: &mut TcpStream, buf: &mut [u8]) -> LinkGot
 pub struct TcpOut<R> {
     rt: R,
     stream: TcpStream,
-    // The next pause, in microseconds.
+    /// The rests since the last send that didn't pause.
+    rests: u32,
+    /// The next pause, in microseconds.
     pause: u64,
     faults: u64,
 }
@@ -100,6 +106,7 @@ impl<R: rt::Clock> LinkOut for TcpOut<R> {
     ghost told = { λ n. record { handed = None; faults = n } };
 
     fn send(&mut self, octets: &[u8]) -> Put {
+        self.rests = 0;
         self.pause = SHORT_PAUSE;
         match self.stream.write_all(octets) {
             Ok(()) => Put::Done,
@@ -110,14 +117,24 @@ impl<R: rt::Clock> LinkOut for TcpOut<R> {
         }
     }
 
-    /// Pauses, longer each time until something is sent, and at most a millisecond.
+    /// Lets other threads go first, for so many times behind a send, and then pauses, longer each time until something is
+    /// sent, and at most a millisecond.
     fn rest(&mut self) {
+        if self.rests < SHORT_RESTS {
+            self.rests += 1;
+            thread::yield_now();
+            return;
+        }
         thread::sleep(&self.rt, Duration::from_micros(self.pause));
         self.pause = self.pause.saturating_mul(2).min(LONG_PAUSE);
     }
+
+    fn close(&mut self) {
+        let _ = self.stream.shutdown(Shutdown::Both);
+    }
 }
 
-// The two ends of a stream, where it can be set up.
+/// The two ends of a stream, where it can be set up.
 pub(crate) fn ends_of<R: Copy>(rt: R, stream: TcpStream) -> io::Result<(TcpIn, TcpOut<R>)>
     ensures { IfOk result (λ ends. (ends.0 ≡ record { faults = 0; ends = 0 }) × (ends.1 ≡ 0)) }
 {
@@ -133,6 +150,7 @@ pub(crate) fn ends_of<R: Copy>(rt: R, stream: TcpStream) -> io::Result<(TcpIn, T
     let link_out = TcpOut {
         rt,
         stream: other,
+        rests: 0,
         pause: SHORT_PAUSE,
         faults: 0,
     };

@@ -10,7 +10,7 @@ use std::test::Fail;
 use std::time::{Duration, Instant};
 use wire_core::{NoMemory, Octets, Put};
 
-// 127.0.0.1.
+/// 127.0.0.1.
 const LOOPBACK: u32 = 0x7f00_0001;
 
 fn now<C: Clock>(clock: &mut C) -> u64 {
@@ -38,6 +38,10 @@ fn speak<O: LinkOut>(link: &mut O, octets: &[u8]) -> Put {
     link.send(octets)
 }
 
+fn let_go<O: LinkOut>(link: &mut O) {
+    link.close();
+}
+
 fn dial<L: Dialer>(dialer: &mut L) -> Option<(L::In, L::Out)> {
     dialer.dial()
 }
@@ -55,7 +59,7 @@ fn datagram_of(alloc: Global, port: u16, length: usize) -> Result<Datagram, NoMe
     })
 }
 
-// Looks that find nothing, four octets, and six.
+/// Looks that find nothing, four octets, and six.
 fn looks(alloc: Global) -> Result<VecDeque<Option<Datagram>>, NoMemory> {
     let mut looks = VecDeque::new(alloc);
     looks.push_back(None)?;
@@ -84,7 +88,7 @@ fn clock_over_memory(rt: HostRuntime) -> Result<(), Fail> {
     Ok(())
 }
 
-// Past 2020, and it goes on.
+/// Past 2020, and it goes on.
 #[test]
 fn clock_of_the_system(rt: HostRuntime) {
     let mut clock = SystemClock::new(rt);
@@ -148,7 +152,7 @@ fn socket_with_faults(rt: HostRuntime) -> Result<(), Fail> {
     Ok(())
 }
 
-// Looks of two octets, of none, and of all.
+/// Looks of two octets, of none, and of all.
 fn pieces(alloc: Global) -> Result<VecDeque<usize>, NoMemory> {
     let mut looks = VecDeque::new(alloc);
     looks.push_back(2)?;
@@ -169,6 +173,7 @@ fn link_without_a_fault(rt: HostRuntime) -> Result<(), Fail> {
     let mut out = SteadyLinkOut::new(Vec::with_capacity(alloc, 3)?);
     assert_eq!(rt; speak(&mut out, b"ab"), Put::Done);
     assert_eq!(rt; speak(&mut out, b"c"), Put::Done);
+    let_go(&mut out);
     assert_eq!(rt; out.handed(), Some(b"abc".as_slice()));
     Ok(())
 }
@@ -183,6 +188,7 @@ fn link_with_faults(rt: HostRuntime) -> Result<(), Fail> {
     let mut out = MemoryLinkOut::new(Vec::with_capacity(alloc, 4)?, vec![in alloc; 0]?);
     assert_eq!(rt; speak(&mut out, b"abcd"), Put::Failed);
     assert_eq!(rt; speak(&mut out, b"ef"), Put::Done);
+    let_go(&mut out);
     assert_eq!(rt; out.handed(), Some(b"abef".as_slice()));
     Ok(())
 }
@@ -195,7 +201,7 @@ fn hello_line(alloc: Global) -> Result<SteadyLine, NoMemory> {
     ))
 }
 
-// What the first look at the link of the next dial finds.
+/// What the first look at the link of the next dial finds.
 fn first_look<L: Dialer>(dialer: &mut L) -> Option<LinkGot>
 where
     L::In: Drop,
@@ -222,14 +228,14 @@ fn dialers_over_memory(rt: HostRuntime) -> Result<(), Fail> {
     Ok(())
 }
 
-// A peer with a port that the system chooses, which waits a few seconds for a datagram.
+/// A peer with a port that the system chooses, which waits a few seconds for a datagram.
 fn peer(net: &HostRuntime) -> io::Result<UdpSocket> {
     let peer = UdpSocket::bind(net, (Ipv4Addr::from(LOOPBACK), 0))?;
     peer.set_read_timeout(Some(Duration::from_secs(5)))?;
     Ok(peer)
 }
 
-// A datagram of 4096 octets, one of 5000, of which the end is lost, and then none for a tenth of a second.
+/// A datagram of 4096 octets, one of 5000, of which the end is lost, and then none for a tenth of a second.
 #[test]
 fn datagrams_over_loopback(rt: HostRuntime) -> Result<(), Fail> {
     let peer = peer(&rt)?;
@@ -257,7 +263,7 @@ fn datagrams_over_loopback(rt: HostRuntime) -> Result<(), Fail> {
     Ok(())
 }
 
-// A twin sends from the socket's port, and the port is in use for others.
+/// A twin sends from the socket's port, and the port is in use for others.
 #[test]
 fn twin_over_loopback(rt: HostRuntime) -> Result<(), Fail> {
     let peer = peer(&rt)?;
@@ -283,7 +289,7 @@ fn listener(net: &HostRuntime) -> io::Result<TcpListener> {
     TcpListener::bind(net, (Ipv4Addr::from(LOOPBACK), 0))
 }
 
-// Both ways, nothing for a while, and a peer that closes.
+/// Both ways, nothing for a while, and a peer that closes.
 #[test]
 fn link_over_loopback(rt: HostRuntime) -> Result<(), Fail> {
     let listener = listener(&rt)?;
@@ -301,7 +307,22 @@ fn link_over_loopback(rt: HostRuntime) -> Result<(), Fail> {
     Ok(())
 }
 
-// Nobody listens, and the dialer pauses.
+/// Both sides learn of it, and what is sent afterwards is lost.
+#[test]
+fn link_that_is_let_go(rt: HostRuntime) -> Result<(), Fail> {
+    let listener = listener(&rt)?;
+    let mut dialer = TcpDialer::new(rt, LOOPBACK, listener.local_addr()?.port());
+    let (mut link_in, mut link_out) = dial(&mut dialer).ok_or("no link")?;
+    let (mut peer, _) = listener.accept()?;
+    let mut buf = octets(rt.alloc(), 8)?;
+    let_go(&mut link_out);
+    assert_eq!(rt; peer.read(buf.as_mut_slice())?, 0);
+    assert_eq!(rt; hear(&mut link_in, buf.as_mut_slice()), LinkGot::Ended);
+    assert_eq!(rt; speak(&mut link_out, b"ask"), Put::Failed);
+    Ok(())
+}
+
+/// Nobody listens, and the dialer pauses.
 #[test]
 fn refused_dial_over_loopback(rt: HostRuntime) -> Result<(), Fail> {
     let port = listener(&rt)?.local_addr()?.port();
@@ -313,7 +334,7 @@ fn refused_dial_over_loopback(rt: HostRuntime) -> Result<(), Fail> {
     Ok(())
 }
 
-// One connection is accepted, and no other. An address in use gives none.
+/// One connection is accepted, and no other. An address in use gives none.
 #[test]
 fn accepted_over_loopback(rt: HostRuntime) -> Result<(), Fail> {
     let port = listener(&rt)?.local_addr()?.port();
@@ -329,7 +350,7 @@ fn accepted_over_loopback(rt: HostRuntime) -> Result<(), Fail> {
     Ok(())
 }
 
-// Waits until all who meet are there, and gives one more than its number.
+/// Waits until all who meet are there, and gives one more than its number.
 #[derive(Drop)]
 struct Guest {
     meeting: Arc<Barrier>,
@@ -362,7 +383,7 @@ fn invited(meeting: &Arc<Barrier>, number: u32) -> Result<Guest, AllocError> {
     Ok(Guest { meeting, number })
 }
 
-// Each waits for the other two, so they run beside each other.
+/// Each waits for the other two, so they run beside each other.
 #[test]
 fn three_threads_meet(rt: HostRuntime) -> Result<(), Fail> {
     let alloc = rt.alloc();

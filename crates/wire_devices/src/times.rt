@@ -52,7 +52,7 @@ impl Clock for MemoryClock {
     }
 }
 
-// The moment of the n-th reading, counted from 0.
+/// The moment of the n-th reading, counted from 0.
 fn moment_at(moments: &[u64], n: u64) -> u64
     ensures { result ≡ moment_at moments.now n }
 {
@@ -96,7 +96,7 @@ impl<R: rt::Clock> Clock for SystemClock<R> {
     }
 }
 
-// Whole milliseconds, as far as they fit.
+/// Whole milliseconds, as far as they fit.
 fn millis(time: Duration) -> u64 {
     u64::try_from(time.as_millis()).unwrap_or(u64::MAX)
 }

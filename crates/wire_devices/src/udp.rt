@@ -13,7 +13,7 @@ use std::net::{IpAddr, Ipv4Addr, Net, UdpSocket};
 use std::time::Duration;
 use wire_core::Put;
 
-// How long a look waits at most, in milliseconds.
+/// How long a look waits at most, in milliseconds.
 pub(crate) const LOOK: u64 = 100;
 
 /// A socket of std, of IPv4. One that isn't opened fails at each call. A look waits a tenth of a second at most.
@@ -111,7 +111,7 @@ impl Datagrams for UdpDatagrams {
     }
 }
 
-// One look at the socket.
+/// One look at the socket.
 fn look(socket: &Option<UdpSocket>, buf: &mut [u8]) -> Took
     ensures { Fits result (length buf.new) }
 {
@@ -137,12 +137,12 @@ fn look(socket: &Option<UdpSocket>, buf: &mut [u8]) -> Took
     }
 }
 
-// Another handle of the same socket.
+/// Another handle of the same socket.
 fn twin_of(socket: &Option<UdpSocket>) -> Option<UdpSocket> {
     socket.as_ref()?.try_clone().ok()
 }
 
-// Whether the datagram was sent.
+/// Whether the datagram was sent.
 fn sends(socket: &Option<UdpSocket>, address: u32, port: u16, octets: &[u8]) -> bool {
     match socket {
         Some(socket) => socket
@@ -152,7 +152,7 @@ fn sends(socket: &Option<UdpSocket>, address: u32, port: u16, octets: &[u8]) -> 
     }
 }
 
-// Whether a look that ended so found nothing: it waited for its time, or a signal cut it short.
+/// Whether a look that ended so found nothing: it waited for its time, or a signal cut it short.
 pub(crate) fn is_nothing(kind: ErrorKind) -> bool {
     matches!(
         kind,

@@ -18,12 +18,12 @@ use turnstile::{Pass, Turnstile};
 use wire_core::{NoMemory, Octets};
 use wire_devices::{Datagram, MemoryClock, MemoryDatagrams, SteadyDatagrams};
 
-// Where the access server is.
+/// Where the access server is.
 const ADDRESS: u32 = 0xc0a8_0110;
 
 const PORT: u16 = 1812;
 
-// A request, the home server's answer to the first request of a core, and the reply that comes of it.
+/// A request, the home server's answer to the first request of a core, and the reply that comes of it.
 const REQUEST: &[u8] = b"\
 \x01\x05\0\x26\0\x01\x02\x03\x04\x05\x06\x07\x08\x09\x0a\x0b\x0c\x0d\x0e\x0f\
 \x01\x06\
@@ -57,7 +57,7 @@ type Place = (
     Pass<AgentDesk<MemoryClock>>,
 );
 
-// A desk whose clock reads these moments, and whose run ends at 100.
+/// A desk whose clock reads these moments, and whose run ends at 100.
 fn started(alloc: Global, random: RandomState, moments: Vec<u64>) -> Result<Place, NoMemory>
     ensures { IfOk result (λ r. table_of r.1 ≡ r.0) }
 {
@@ -77,7 +77,7 @@ fn request(alloc: Global) -> Result<Datagram, NoMemory> {
     })
 }
 
-// A look that finds the request.
+/// A look that finds the request.
 fn one_request(alloc: Global) -> Result<VecDeque<Option<Datagram>>, NoMemory> {
     let mut looks = VecDeque::new(alloc);
     looks.push_back(Some(request(alloc)?))?;
@@ -93,7 +93,7 @@ fn is_reply(handed: Option<&[Datagram]>) -> bool {
     }
 }
 
-// What comes before a repeat: the link is ready, and the request is sent and answered.
+/// What comes before a repeat: the link is ready, and the request is sent and answered.
 fn answered<R: Wait>(
     rt: &R,
     alloc: Global,
@@ -118,7 +118,7 @@ fn answered<R: Wait>(
     Ok(())
 }
 
-// The receives with these numbers fail. Nothing is there at others, and the clock is at the run's end.
+/// The receives with these numbers fail. Nothing is there at others, and the clock is at the run's end.
 fn read_failing<R: Wait>(
     rt: &R,
     alloc: Global,
@@ -132,7 +132,7 @@ fn read_failing<R: Wait>(
     Ok(end)
 }
 
-// The repeat is the reader's first look. Three Ticks follow, of which the last is at the run's end.
+/// The repeat is the reader's first look. Three Ticks follow, of which the last is at the run's end.
 #[test]
 fn a_repeat_gets_the_reply(rt: HostRuntime) -> Result<(), Fail> {
     let alloc = rt.alloc();

@@ -62,7 +62,7 @@ fn calls_of(fault: Fault) -> Failing {
     failing
 }
 
-// How such a run ends, and how many links its trail has, where there is one.
+/// How such a run ends, and how many links its trail has, where there is one.
 fn wanted(fault: Fault) -> (Status, Option<usize>) {
     match fault {
         Fault::Dials(16) => (Status::LinkFault, None),
@@ -73,7 +73,7 @@ fn wanted(fault: Fault) -> (Status, Option<usize>) {
     }
 }
 
-// The numbers of the first so many calls.
+/// The numbers of the first so many calls.
 fn first(alloc: Global, count: usize) -> Result<Vec<usize>, AllocError> {
     let mut calls = Vec::with_capacity(alloc, count)?;
     for call in 0..count {
@@ -82,14 +82,14 @@ fn first(alloc: Global, count: usize) -> Result<Vec<usize>, AllocError> {
     Ok(calls)
 }
 
-// A clock that stands at 0 for so many readings, and reads this from then on.
+/// A clock that stands at 0 for so many readings, and reads this from then on.
 fn clock(alloc: Global, readings: usize, then: u64) -> Result<MemoryClock, AllocError> {
     let mut moments = vec![in alloc; 0; readings]?;
     moments.push(then)?;
     Ok(MemoryClock::new(moments))
 }
 
-// A link on which these octets come at once, and then nothing for so many looks.
+/// A link on which these octets come at once, and then nothing for so many looks.
 fn line(alloc: Global, octets: &Octets, quiet: usize) -> Result<Line, NoMemory> {
     let mut looks = VecDeque::new(alloc);
     looks.push_back(octets.len())?;
@@ -107,7 +107,7 @@ fn only(alloc: Global, line: Line) -> Result<VecDeque<Line>, NoMemory> {
     Ok(lines)
 }
 
-// How a run over these devices ends, and how many links its trail has, where there is one.
+/// How a run over these devices ends, and how many links its trail has, where there is one.
 fn end<R: Threads + Wait + Copy + Send + 'static>(
     rt: R,
     alloc: Global,
@@ -152,8 +152,8 @@ fn end<R: Threads + Wait + Copy + Send + 'static>(
     Ok((status, links))
 }
 
-// Whether a run ends as it is to with this fault. Each look at the link costs a reading of the clock, so the link lasts longer
-// than the run.
+/// Whether a run ends as it is to with this fault. Each look at the link costs a reading of the clock, so the link lasts longer
+/// than the run.
 fn ends_as_wanted<R: Threads + Wait + Copy + Send + 'static>(
     rt: R,
     alloc: Global,
@@ -187,7 +187,7 @@ fn what_fails_says_how_a_run_ends(rt: HostRuntime) -> Result<(), Fail> {
     Ok(())
 }
 
-// The clock stands still, and the dialer has no link that lasts.
+/// The clock stands still, and the dialer has no link that lasts.
 #[test]
 fn links_that_end_at_once_wear_a_run_out(rt: HostRuntime) -> Result<(), Fail> {
     let alloc = rt.alloc();

@@ -11,8 +11,8 @@ use std::alloc::Global;
 use std::test::Fail;
 use wire_core::Octets;
 
-// What happens in these runs: a link serves, a request was sent on it, a second one, a request was sent again on the second
-// link, on the third, and a reply was handed out.
+/// What happens in these runs: a link serves, a request was sent on it, a second one, a request was sent again on the second
+/// link, on the third, and a reply was handed out.
 const SERVING: u64 = 1;
 
 const ASKED: u64 = 1 << 1;
@@ -55,7 +55,7 @@ fn first_link(alloc: Global, play: &mut Play, first: First) -> Result<(), Fail> 
     }
 }
 
-// The run lasts until the agent's capabilities are sent on the second link.
+/// The run lasts until the agent's capabilities are sent on the second link.
 #[test]
 fn after_a_failed_link_another_is_dialled(rt: HostRuntime) -> Result<(), Fail> {
     let alloc = rt.alloc();
@@ -71,7 +71,7 @@ fn after_a_failed_link_another_is_dialled(rt: HostRuntime) -> Result<(), Fail> {
     Ok(())
 }
 
-// The first link serves and takes a login, and then it ends. The second takes the answer.
+/// The first link serves and takes a login, and then it ends. The second takes the answer.
 fn reopened(rt: HostRuntime) -> Result<Play, Fail> {
     let alloc = rt.alloc();
     let mut play = Play::new(rt, REPLIED)?;
@@ -109,8 +109,8 @@ fn what_waits_is_sent_again_on_the_next_link(rt: HostRuntime) -> Result<(), Fail
     Ok(())
 }
 
-// On the first link two logins are sent, of which one is answered. The other is sent again on the second link, and then on
-// the third. Its answer by its first number is left alone there, and that by its present number is taken.
+/// On the first link two logins are sent, of which one is answered. The other is sent again on the second link, and then on
+/// the third. Its answer by its first number is left alone there, and that by its present number is taken.
 fn reopened_twice(rt: HostRuntime) -> Result<Play, Fail> {
     let alloc = rt.alloc();
     let mut play = Play::new(rt, REPLIED)?;

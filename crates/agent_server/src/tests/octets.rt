@@ -9,12 +9,12 @@ use std::test::Fail;
 use wire_core::{NoMemory, Octets};
 use wire_devices::Datagram;
 
-// Where the access server is.
+/// Where the access server is.
 const ADDRESS: u32 = 0xc0a8_0110;
 
 const PORT: u16 = 1812;
 
-// A login of nemo, and another that differs in its authenticator alone. The first one's success and its reject.
+/// A login of nemo, and another that differs in its authenticator alone. The first one's success and its reject.
 pub(super) const LOGIN: &str =
     "01050026000102030405060708090a0b0c0d0e0f01066e656d6f20066e617331050600000003";
 
@@ -28,13 +28,13 @@ pub(super) const SUCCESS: &str = "\
 pub(super) const REJECT: &str =
     "030500266629c496c5f02bedd9c27299b2bda9ce50125c3a9d4b63a4570bf56317dc114f2067";
 
-// The beginning of a session, and its reply.
+/// The beginning of a session, and its reply.
 pub(super) const START: &str = "040900204fae30c0d99d5c4169effca21c0073fa28060000000101066e656d6f";
 
 pub(super) const STARTED: &str = "050900149a8423b63a539f50271b2cfadb84c081";
 
-// The head of a message up to its two identifiers, and what comes after them: the agent's capabilities, and the home
-// server's that are given with 2001 and with 5010.
+/// The head of a message up to its two identifiers, and what comes after them: the agent's capabilities, and the home
+/// server's that are given with 2001 and with 5010.
 pub(super) const CAPABILITIES: [&str; 2] = [
     "010000988000010100000000",
     "\
@@ -60,7 +60,7 @@ pub(super) const INCAPABLE: [&str; 2] = [
 000001024000000c00000001000001034000000c00000003",
 ];
 
-// A login that is sent again, of the first session and of the second.
+/// A login that is sent again, of the first session and of the second.
 pub(super) const AGAIN: [&str; 2] = [
     "010000acd000010900000001",
     "\
@@ -79,7 +79,7 @@ pub(super) const SECOND_AGAIN: [&str; 2] = [
 000000054000000c00000003",
 ];
 
-// The home server's answers: the first session's login is accepted or rejected, so is the second's, and the session began.
+/// The home server's answers: the first session's login is accepted or rejected, so is the second's, and the session began.
 pub(super) const ACCEPTED: [&str; 2] = [
     "010000784000010900000001",
     "\
@@ -120,10 +120,10 @@ pub(super) const BEGUN: [&str; 2] = [
 000001284000000f6578616d706c6500",
 ];
 
-// The hop-by-hop identifier of a link's first message of the base protocol.
+/// The hop-by-hop identifier of a link's first message of the base protocol.
 const BASE: u32 = 0x8000_0000;
 
-// The agent's first end-to-end identifier.
+/// The agent's first end-to-end identifier.
 const FIRST: u32 = 0x0070_0000;
 
 fn append(alloc: Global, octets: &mut Vec<u8>, text: &str) -> Result<(), Fail> {

@@ -7,8 +7,8 @@ use super::runs::{Play, heard, run};
 use agent_status::Status;
 use std::test::Fail;
 
-// What happens in these runs: the link serves, a request was sent on it, a second one, the socket for logins handed out a
-// reply by its twin, that for accounting did, the socket for logins did itself, and that for accounting did.
+/// What happens in these runs: the link serves, a request was sent on it, a second one, the socket for logins handed out a
+/// reply by its twin, that for accounting did, the socket for logins did itself, and that for accounting did.
 const SERVING: u64 = 1;
 
 const ASKED: u64 = 1 << 1;
@@ -23,8 +23,8 @@ const REPEATED: u64 = 1 << 5;
 
 const ACCT_REPEATED: u64 = 1 << 6;
 
-// A login and the beginning of a session, each of which comes again once it was replied to. The home server answers the
-// second one first.
+/// A login and the beginning of a session, each of which comes again once it was replied to. The home server answers the
+/// second one first.
 fn both_ports(rt: HostRuntime) -> Result<Play, Fail> {
     let alloc = rt.alloc();
     let mut play = Play::new(rt, REPEATED | ACCT_REPEATED)?;
@@ -47,7 +47,7 @@ fn both_ports(rt: HostRuntime) -> Result<Play, Fail> {
     Ok(play)
 }
 
-// The answers go out by the twins, and the kept replies by the sockets themselves.
+/// The answers go out by the twins, and the kept replies by the sockets themselves.
 #[test]
 fn each_port_has_its_replies(rt: HostRuntime) -> Result<(), Fail> {
     let alloc = rt.alloc();
@@ -62,7 +62,7 @@ fn each_port_has_its_replies(rt: HostRuntime) -> Result<(), Fail> {
     Ok(())
 }
 
-// One link, on which a login is asked and answered. It comes again once its reply was handed out.
+/// One link, on which a login is asked and answered. It comes again once its reply was handed out.
 fn answered(rt: HostRuntime, last: u64) -> Result<Play, Fail> {
     let alloc = rt.alloc();
     let mut play = Play::new(rt, last)?;
@@ -91,7 +91,7 @@ fn reply_that_could_not_be_sent_is_kept(rt: HostRuntime) -> Result<(), Fail> {
     Ok(())
 }
 
-// Nothing else ends the run, but for the clock after very many readings.
+/// Nothing else ends the run, but for the clock after very many readings.
 #[test]
 fn socket_that_fails_ends_the_run(rt: HostRuntime) -> Result<(), Fail> {
     let mut play = Play::new(rt, ACCT_REPEATED)?;
@@ -102,8 +102,8 @@ fn socket_that_fails_ends_the_run(rt: HostRuntime) -> Result<(), Fail> {
     Ok(())
 }
 
-// The socket's second datagram is waited for within the look, until the reader of the link has handed out the reply. So the
-// look is in vain unless both readers run beside each other.
+/// The socket's second datagram is waited for within the look, until the reader of the link has handed out the reply. So the
+/// look is in vain unless both readers run beside each other.
 #[test]
 fn readers_run_beside_each_other(rt: HostRuntime) -> Result<(), Fail> {
     let mut play = answered(rt, REPEATED)?;

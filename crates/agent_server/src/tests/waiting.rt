@@ -21,10 +21,10 @@ pub(super) const UNTIL: u64 = 100;
 /// Raised where a look that insists was in vain.
 pub(super) const IN_VAIN: u64 = 1 << 63;
 
-// So often the clock is read at most before the run ends, whatever has happened.
+/// So often the clock is read at most before the run ends, whatever has happened.
 const MOST_READINGS: u32 = 20_000;
 
-// So often a look that insists looks, and after so many it naps.
+/// So often a look that insists looks, and after so many it naps.
 const MOST_LOOKS: u32 = 10_000_000;
 
 const LOOKS: u32 = 1_000;
@@ -40,7 +40,7 @@ fn raise(word: &Word, bits: u64) {
     word.fetch_or(bits, Ordering::SeqCst);
 }
 
-// The bits that a call with this number raises.
+/// The bits that a call with this number raises.
 fn raise_next(word: &Word, bits: &[u64], call: usize) {
     raise(word, bits.get(call).copied().unwrap_or(0));
 }
@@ -49,7 +49,7 @@ fn nap(rt: &HostRuntime) {
     thread::sleep(rt, Duration::from_micros(50));
 }
 
-// Puts these octets at the front of the buffer, as many as fit, and tells how many.
+/// Puts these octets at the front of the buffer, as many as fit, and tells how many.
 fn fill(buf: &mut [u8], octets: &[u8]) -> usize
     ensures { result ≤ length buf.new }
 {
@@ -130,7 +130,7 @@ pub(super) struct WaitingSocket {
     failing_receives: u32,
     failing_sends: u32,
     raises: Vec<u64>,
-    // What a twin is made of.
+    /// What a twin is made of.
     twin_raises: Vec<u64>,
     failing_twin_sends: u32,
     handed: Vec<Datagram>,
@@ -179,7 +179,7 @@ impl WaitingSocket {
     }
 }
 
-// Whether the bits of a find are raised, for which a look that insists waits.
+/// Whether the bits of a find are raised, for which a look that insists waits.
 fn has_come(rt: &HostRuntime, word: &Word, find: &Find) -> bool {
     if !find.insists {
         return has(word, find.after);
@@ -196,7 +196,7 @@ fn has_come(rt: &HostRuntime, word: &Word, find: &Find) -> bool {
     false
 }
 
-// What the next look finds. Where nothing is there it naps.
+/// What the next look finds. Where nothing is there it naps.
 fn seek(rt: &HostRuntime, word: &Word, find: Option<&Find>, buf: &mut [u8]) -> Took
     ensures { Fits result (length buf.new) }
 {
@@ -316,7 +316,7 @@ pub(super) struct WaitingIn {
     word: Word,
     looks: Vec<Look>,
     place: usize,
-    // What the next look raises.
+    /// What the next look raises.
     owed: u64,
     faults: u64,
     ends: u64,
@@ -330,7 +330,7 @@ impl Model for WaitingIn {
     ghost view = { λ s. record { faults = s.faults; ends = s.ends } };
 }
 
-// What a look finds, with what is owed then.
+/// What a look finds, with what is owed then.
 fn hear(word: &Word, look: Option<&Look>, buf: &mut [u8]) -> (LinkGot, u64)
     ensures { Within result.0 (length buf.new) }
 {
@@ -430,6 +430,8 @@ impl LinkOut for WaitingOut {
     fn rest(&mut self) {
         nap(&self.rt);
     }
+
+    fn close(&mut self) {}
 }
 
 /// A dialer that makes these links in turn, and then such as nothing comes on.
@@ -466,7 +468,7 @@ impl WaitingDialer {
         }
     }
 
-    // A share of the word for each end of a link.
+    /// A share of the word for each end of a link.
     fn words(&self) -> Option<(Word, Word)> {
         let first = Arc::try_clone(&self.word).ok()?;
         let second = Arc::try_clone(&self.word).ok()?;

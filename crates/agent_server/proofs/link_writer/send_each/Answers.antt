@@ -1,6 +1,6 @@
 use Rattle.std.proofs.Common.{◌+◌}
 use Rattle.agent_server.proofs.WritingLemmas.{sent-next, sent-stopped}
-use Rattle.agent_server.proofs.link_writer.send_all.Goals as goal
+use Rattle.agent_server.proofs.link_writer.send_each.Goals as goal
 
 pub returns-then-not-send_one : goal.returns-then-not-send_one
 returns-then-not-send_one g c =

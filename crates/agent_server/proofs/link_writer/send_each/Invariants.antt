@@ -1,6 +1,6 @@
 use Rattle.std.proofs.Common.{true, take}
 use Rattle.agent_server.specs.LinkWriting.{SentOn}
-use Rattle.agent_server.proofs.link_writer.send_all.Given as goal
+use Rattle.agent_server.proofs.link_writer.send_each.Given as goal
 
 -- what came so far went out
 abbrev pub invariant-loop-output : goal.invariant-loop-output
