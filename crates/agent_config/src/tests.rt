@@ -58,6 +58,11 @@ fn fault(read: &Result<Config, ConfigFault>) -> (&str, u32, &[u8]) {
     }
 }
 
+/// Whether this text gives this fault, with its client and its key.
+fn gives(alloc: Global, text: &[u8], wanted: (&str, u32, &[u8])) -> bool {
+    fault(&read(alloc, text)) == wanted
+}
+
 /// What stands before the next bar, and the rest.
 fn cut(case: &str) -> (&str, &str) {
     case.split_once('|').unwrap_or((case, ""))
@@ -150,21 +155,39 @@ const KEYS: &str = "\
 0|clients|clients = 1|NotToml
 1|zeta|zeta = { a = 1 }|BadValue";
 
+/// What a fault of this name says of the client and the key that it is at.
+fn fault_at<'a>(name: &'a str, client: u32, key: &'a str) -> (&'a str, u32, &'a [u8]) {
+    match name {
+        "Missing" | "BadValue" => (name, client, key.as_bytes()),
+        _ => (name, 0, b"".as_slice()),
+    }
+}
+
+/// Whether this line in place of the one of the key gives the fault that is wanted.
+fn has_fault(
+    alloc: Global,
+    client: u32,
+    key: &str,
+    line: &str,
+    wanted: &str,
+) -> Result<bool, AllocError> {
+    let text = document(alloc, client, key, line)?;
+    Ok(gives(alloc, text.as_bytes(), fault_at(wanted, client, key)))
+}
+
+/// Whether this line of `KEYS` holds.
+fn is_true_of_key(alloc: Global, case: &str) -> Result<bool, AllocError> {
+    let (table, rest) = cut(case);
+    let (key, rest) = cut(rest);
+    let (line, wanted) = cut(rest);
+    let client = if table == "1" { 1 } else { 0 };
+    has_fault(alloc, client, key, line, wanted)
+}
+
 #[test]
 fn keys(rt: HostRuntime) -> Result<(), Fail> {
     for case in KEYS.lines() {
-        let (table, rest) = cut(case);
-        let (key, rest) = cut(rest);
-        let (line, wanted) = cut(rest);
-        let client = if table == "1" { 1 } else { 0 };
-        let text = document(rt.alloc(), client, key, line)?;
-        let read = read(rt.alloc(), text.as_bytes());
-        let (name, faulty, faulty_key) = fault(&read);
-        assert_eq!(rt; name, wanted, "{case}");
-        if name == "Missing" || name == "BadValue" {
-            assert_eq!(rt; faulty, client, "{case}");
-            assert_eq!(rt; faulty_key, key.as_bytes(), "{case}");
-        }
+        assert!(rt; is_true_of_key(rt.alloc(), case)?, "{case}");
     }
     Ok(())
 }
@@ -227,62 +250,84 @@ fn joined(alloc: Global, parts: &str) -> Result<String, AllocError> {
     Ok(text)
 }
 
+/// Whether this line of `DOCUMENTS` holds.
+fn is_true_of_document(alloc: Global, case: &str) -> Result<bool, Fail> {
+    let (parts, rest) = cut(case);
+    let (name, rest) = cut(rest);
+    let (client, key) = cut(rest);
+    let client = client.parse::<u32>()?;
+    let text = joined(alloc, parts)?;
+    Ok(gives(alloc, text.as_bytes(), (name, client, key.as_bytes())))
+}
+
 #[test]
 fn documents(rt: HostRuntime) -> Result<(), Fail> {
     for case in DOCUMENTS.lines() {
-        let (parts, rest) = cut(case);
-        let (name, rest) = cut(rest);
-        let (client, key) = cut(rest);
-        let text = joined(rt.alloc(), parts)?;
-        let read = read(rt.alloc(), text.as_bytes());
-        let (faulty, of, of_key) = fault(&read);
-        assert_eq!(rt; faulty, name, "{case}");
-        assert!(rt; client.parse::<u32>() == Ok(of), "{case}");
-        assert_eq!(rt; of_key, key.as_bytes(), "{case}");
+        assert!(rt; is_true_of_document(rt.alloc(), case)?, "{case}");
     }
-    let read = read(rt.alloc(), b"host = '\xff'");
-    assert_eq!(rt; fault(&read).0, "NotToml");
+    let is_refused = gives(rt.alloc(), b"host = '\xff'", ("NotToml", 0, b""));
+    assert!(rt; is_refused);
     Ok(())
+}
+
+/// A line with this part so many times between its start and its end.
+fn long_line(
+    alloc: Global,
+    start: &str,
+    part: &str,
+    times: u32,
+    end: &str,
+) -> Result<String, AllocError> {
+    let mut line = String::from_str(alloc, start)?;
+    for _ in 0..times {
+        line.push_str(part)?;
+    }
+    line.push_str(end)?;
+    Ok(line)
+}
+
+/// In each line a table, a key whose value is a text, a length, and the fault that a text of this length shows.
+const LENGTHS: &str = "\
+0|host|64|Ok
+0|host|65|BadValue
+0|realm|64|Ok
+0|realm|65|BadValue
+0|home_realm|64|Ok
+0|home_realm|65|BadValue
+1|name|64|Ok
+1|name|65|BadValue
+1|secret|128|Ok
+1|secret|129|BadValue
+1|origin_host|64|Ok
+1|origin_host|65|BadValue
+1|origin_realm|64|Ok
+1|origin_realm|65|BadValue";
+
+/// Whether this line of `LENGTHS` holds.
+fn is_true_of_length(alloc: Global, case: &str) -> Result<bool, Fail> {
+    let (table, rest) = cut(case);
+    let (key, rest) = cut(rest);
+    let (length, wanted) = cut(rest);
+    let client = if table == "1" { 1 } else { 0 };
+    let start = format!(in alloc; "{key} = '")?;
+    let line = long_line(alloc, start.as_str(), "a", length.parse::<u32>()?, "'")?;
+    Ok(has_fault(alloc, client, key, line.as_str(), wanted)?)
+}
+
+/// Whether a list of so many addresses shows this fault.
+fn is_true_of_list(alloc: Global, addresses: u32, wanted: &str) -> Result<bool, AllocError> {
+    let line = long_line(alloc, "nas_addresses = [", "'10.0.0.9',", addresses, "]")?;
+    has_fault(alloc, 1, "nas_addresses", line.as_str(), wanted)
 }
 
 /// Texts and lists at their longest, and one longer.
 #[test]
 fn lengths(rt: HostRuntime) -> Result<(), Fail> {
-    for (client, key, length, wanted) in [
-        (0, "host", 64, "Ok"),
-        (0, "host", 65, "BadValue"),
-        (0, "realm", 64, "Ok"),
-        (0, "realm", 65, "BadValue"),
-        (0, "home_realm", 64, "Ok"),
-        (0, "home_realm", 65, "BadValue"),
-        (1, "name", 64, "Ok"),
-        (1, "name", 65, "BadValue"),
-        (1, "secret", 128, "Ok"),
-        (1, "secret", 129, "BadValue"),
-        (1, "origin_host", 64, "Ok"),
-        (1, "origin_host", 65, "BadValue"),
-        (1, "origin_realm", 64, "Ok"),
-        (1, "origin_realm", 65, "BadValue"),
-    ] {
-        let mut line = format!(in rt.alloc(); "{key} = '")?;
-        for _ in 0..length {
-            line.push_str("a")?;
-        }
-        line.push_str("'")?;
-        let text = document(rt.alloc(), client, key, line.as_str())?;
-        let read = read(rt.alloc(), text.as_bytes());
-        assert_eq!(rt; fault(&read).0, wanted, "{line}");
+    for case in LENGTHS.lines() {
+        assert!(rt; is_true_of_length(rt.alloc(), case)?, "{case}");
     }
-    for (addresses, wanted) in [(64, "Ok"), (65, "BadValue")] {
-        let mut line = String::from_str(rt.alloc(), "nas_addresses = [")?;
-        for _ in 0..addresses {
-            line.push_str("'10.0.0.9',")?;
-        }
-        line.push_str("]")?;
-        let text = document(rt.alloc(), 1, "nas_addresses", line.as_str())?;
-        let read = read(rt.alloc(), text.as_bytes());
-        assert_eq!(rt; fault(&read).0, wanted, "{addresses}");
-    }
+    assert!(rt; is_true_of_list(rt.alloc(), 64, "Ok")?);
+    assert!(rt; is_true_of_list(rt.alloc(), 65, "BadValue")?);
     Ok(())
 }
 
@@ -300,84 +345,162 @@ fn many(alloc: Global, clients: u32) -> Result<String, AllocError> {
     Ok(text)
 }
 
+/// The settings of a text that has some.
+fn config(alloc: Global, text: &[u8]) -> Result<Config, Fail> {
+    Ok(read(alloc, text)?)
+}
+
+/// The client at this address, and its place, in a list as long as settings have.
+fn found(clients: &Clients, address: u32) -> Option<(u32, &Client)> {
+    if clients.len() > 1_024 {
+        return None;
+    }
+    clients.by_address(address)
+}
+
 #[test]
 fn many_clients(rt: HostRuntime) -> Result<(), Fail> {
-    let config = read(rt.alloc(), many(rt.alloc(), 1_024)?.as_bytes())?;
+    let text = many(rt.alloc(), 1_024)?;
+    let config = config(rt.alloc(), text.as_bytes())?;
     assert_eq!(rt; config.clients.len(), 1_024);
-    let last = config.clients.by_address(0x0a00_03ff);
-    assert_eq!(rt; last.map(|(place, _)| place), Some(1_023));
-    let read = read(rt.alloc(), many(rt.alloc(), 1_025)?.as_bytes());
-    assert!(rt; fault(&read) == ("BadValue", 0, b"clients".as_slice()));
+    let last = found(&config.clients, 0x0a00_03ff).map(|(place, _)| place);
+    assert_eq!(rt; last, Some(1_023));
     Ok(())
+}
+
+#[test]
+fn too_many_clients(rt: HostRuntime) -> Result<(), Fail> {
+    let text = many(rt.alloc(), 1_025)?;
+    assert!(rt; gives(rt.alloc(), text.as_bytes(), ("BadValue", 0, b"clients")));
+    Ok(())
+}
+
+/// The retention, the patience, the capacity, the backlog and the watchdog.
+fn numbers(config: &Config) -> (u64, u64, u32, u32, u64) {
+    (
+        config.retention,
+        config.patience,
+        config.capacity,
+        config.backlog,
+        config.watchdog,
+    )
+}
+
+/// Whether the top table's names are these.
+fn has_names(config: &Config, host: &[u8], realm: &[u8], home_realm: &[u8]) -> bool {
+    config.host.as_slice() == host
+        && config.realm.as_slice() == realm
+        && config.home_realm.as_slice() == home_realm
+}
+
+/// Whether this is the client of `LINES`, with nothing that its lines leave out.
+fn is_usual_client(client: &Client) -> bool {
+    client.name.as_slice() == b"nas1".as_slice()
+        && client.secret.as_slice() == b"xyzzy5461".as_slice()
+        && client.origin_host.as_slice() == b"nas1.example".as_slice()
+        && client.origin_realm.as_slice() == b"example".as_slice()
+        && !client.require_seal
+        && !client.omit_keys
+        && client.nas.as_slice().is_empty()
+        && is_client_in_limits(client)
+}
+
+/// The settings of `LINES`.
+fn usual(alloc: Global) -> Result<Config, Fail> {
+    let text = document(alloc, 0, "none", "")?;
+    config(alloc, text.as_bytes())
 }
 
 #[test]
 fn defaults(rt: HostRuntime) -> Result<(), Fail> {
-    let text = document(rt.alloc(), 0, "none", "")?;
-    let config = read(rt.alloc(), text.as_bytes())?;
-    assert!(rt; config.host.as_slice() == b"agent.example".as_slice());
-    assert!(rt; config.realm.as_slice() == b"example".as_slice());
-    assert!(rt; config.home_realm.as_slice() == b"example".as_slice());
+    let config = usual(rt.alloc())?;
+    assert!(rt; has_names(&config, b"agent.example", b"example", b"example"));
     assert_eq!(rt; (config.address, config.boot), (0xc000_0201, Some(7)));
-    assert_eq!(rt;
-        (
-            config.retention,
-            config.patience,
-            config.capacity,
-            config.backlog,
-            config.watchdog
-        ),
-        (30_000, 30_000, 4_096, 4_096, 30_000)
-    );
-    assert_eq!(rt; config.clients.len(), 1);
-    let Some((0, client)) = config.clients.by_address(0xc0a8_0110) else {
-        return Err("no client".into());
-    };
-    assert!(rt; client.name.as_slice() == b"nas1".as_slice());
-    assert!(rt; client.secret.as_slice() == b"xyzzy5461".as_slice());
-    assert!(rt; client.origin_host.as_slice() == b"nas1.example".as_slice());
-    assert!(rt; client.origin_realm.as_slice() == b"example".as_slice());
-    assert_eq!(rt; (client.require_seal, client.omit_keys), (false, false));
-    assert!(rt; client.nas.as_slice().is_empty());
-    assert_eq!(rt;
-        (is_in_limits(&config), is_client_in_limits(client)),
-        (true, true)
-    );
+    assert_eq!(rt; numbers(&config), (30_000, 30_000, 4_096, 4_096, 30_000));
+    assert!(rt; is_in_limits(&config));
     Ok(())
 }
 
 #[test]
+fn the_one_client(rt: HostRuntime) -> Result<(), Fail> {
+    let config = usual(rt.alloc())?;
+    assert_eq!(rt; config.clients.len(), 1);
+    let Some((0, client)) = found(&config.clients, 0xc0a8_0110) else {
+        return Err("no client".into());
+    };
+    assert!(rt; is_usual_client(client));
+    Ok(())
+}
+
+/// A document with all keys but two.
+const VALUES: &str = "\
+host='a'
+realm='b'
+home_realm='c'
+address='1.2.3.4'
+retention_ms=1500
+capacity=64
+backlog=2
+watchdog_ms=6000
+[[clients]]
+name='d'
+address='10.0.0.1'
+secret='\\u0001e'
+origin_host='f'
+origin_realm='g'
+require_seal=true
+session_keys='omit'
+nas_addresses=['10.0.0.9','10.0.0.8']
+";
+
+#[test]
 fn values(rt: HostRuntime) -> Result<(), Fail> {
-    let text =
-        b"host='a'\nrealm='b'\nhome_realm='c'\naddress='1.2.3.4'\nretention_ms=1500\ncapacity=64\nbacklog=2\nwatchdog_ms=6000\n[[clients]]\nname='d'\naddress='10.0.0.1'\nsecret='\\u0001e'\norigin_host='f'\norigin_realm='g'\nrequire_seal=true\nsession_keys='omit'\nnas_addresses=['10.0.0.9','10.0.0.8']\n";
-    let config = read(rt.alloc(), text)?;
+    let config = config(rt.alloc(), VALUES.as_bytes())?;
     assert!(rt; config.home_realm.as_slice() == b"c".as_slice());
     assert_eq!(rt; (config.address, config.boot), (0x0102_0304, None));
-    assert_eq!(rt;
-        (
-            config.retention,
-            config.patience,
-            config.capacity,
-            config.backlog,
-            config.watchdog
-        ),
-        (1_500, 1_500, 64, 2, 6_000)
-    );
-    let clients = config.clients;
-    assert_eq!(rt; clients.len(), 1);
-    assert!(rt; clients.by_address(0x0a00_0009).is_none());
-    let client = clients.at(0);
-    assert!(rt; client.secret.as_slice() == b"\\u0001e".as_slice());
-    assert_eq!(rt; (client.require_seal, client.omit_keys), (true, true));
-    assert!(rt; client.nas.as_slice() == [0x0a00_0009, 0x0a00_0008].as_slice());
-    // Made one by one, and from a list.
+    assert_eq!(rt; numbers(&config), (1_500, 1_500, 64, 2, 6_000));
+    Ok(())
+}
+
+/// Whether this is the client of `VALUES`.
+fn is_client_of_values(client: &Client) -> bool {
+    client.secret.as_slice() == b"\\u0001e".as_slice()
+        && client.require_seal
+        && client.omit_keys
+        && client.nas.as_slice() == [0x0a00_0009, 0x0a00_0008].as_slice()
+}
+
+/// The client of `VALUES`.
+fn client_of_values(alloc: Global) -> Result<Client, Fail> {
+    let config = config(alloc, VALUES.as_bytes())?;
+    if config.clients.len() == 1 && found(&config.clients, 0x0a00_0009).is_none() {
+        Ok(config.clients.at(0).clone()?)
+    } else {
+        Err("not one client, or one at a wrong address".into())
+    }
+}
+
+#[test]
+fn values_of_a_client(rt: HostRuntime) -> Result<(), Fail> {
+    assert!(rt; is_client_of_values(&client_of_values(rt.alloc())?));
+    Ok(())
+}
+
+/// Clients that are made one by one.
+#[test]
+fn a_client_is_pushed(rt: HostRuntime) -> Result<(), Fail> {
     let mut pushed = Clients::new(rt.alloc());
-    pushed.push(client.clone()?)?;
-    assert!(rt; pushed.by_address(0x0a00_0001).is_some());
-    let made = Clients::from_vec(
-        rt.alloc(),
-        vec![in rt.alloc(); client.clone()?, client.clone()?]?,
-    );
+    pushed.push(client_of_values(rt.alloc())?)?;
+    assert!(rt; found(&pushed, 0x0a00_0001).is_some());
+    Ok(())
+}
+
+/// Clients that are made from a list.
+#[test]
+fn a_client_comes_twice(rt: HostRuntime) -> Result<(), Fail> {
+    let client = client_of_values(rt.alloc())?;
+    let twice = vec![in rt.alloc(); client.clone()?, client]?;
+    let made = Clients::from_vec(rt.alloc(), twice);
     assert!(rt; matches!(made, Err(ConfigFault::TwiceAddress { client: 2 })));
     Ok(())
 }

@@ -6,6 +6,7 @@ use session_carrier::{Kept, Kind2};
 use std::alloc::Global;
 use std::hash::RandomState;
 use std::marker::Model;
+use std::process::Abort;
 use std::test::Fail;
 use wire_core::{NoMemory, Octets};
 
@@ -170,168 +171,296 @@ fn kept(alloc: Global, id: u8) -> Result<Kept, NoMemory> {
     })
 }
 
+/// One call of a caller, and what it is to give.
+#[derive(Clone, Copy)]
+enum Step {
+    /// Time goes on to this moment.
+    WaitUntil(u64),
+    /// A request from a port comes, with a number and an identifier: whether it is taken up.
+    Admit(u16, u32, u8, bool),
+    /// A reply comes over a link, with a number: whether a request waits for it.
+    Reply(u64, u32, bool),
+    /// An answer with no reply comes over a link, with a number: whether a request waits for it.
+    Silence(u64, u32, bool),
+    /// What waits is sent again over a new link.
+    Relink,
+    /// Those that are dead at this moment are dropped.
+    Purge(u64),
+    /// The counts at a moment.
+    Counts(u64, (u32, u32, bool)),
+    /// What is told of the request from a port, at a moment.
+    Told(u16, u64, &'static str),
+    /// The identifier of the request that waits over a link, with a number, at a moment.
+    Awaiting(u64, u32, u64, Option<u8>),
+    /// What the k-th of those that wait at a moment sent.
+    SentAt(u32, u64, Option<u8>),
+    /// What those that wait at a moment sent.
+    Sends(u64, u32),
+}
+
+use Step::*;
+
+impl Caller {
+    /// A call that changes the table: whether it gives what it is to give.
+    fn takes(&mut self, step: &Step) -> Result<bool, NoMemory> {
+        match *step {
+            WaitUntil(moment) => self.wait_until(moment),
+            Relink => self.relink(),
+            Purge(moment) => self.purge(moment),
+            Admit(port, number, id, wanted) => return Ok(self.admit(port, number, id)? == wanted),
+            Reply(link, number, wanted) => {
+                return Ok(self.settle(link, number, Some(b"reply"))? == wanted);
+            }
+            Silence(link, number, wanted) => {
+                return Ok(self.settle(link, number, None)? == wanted);
+            }
+            _ => return self.gives(step),
+        }
+        Ok(true)
+    }
+
+    /// A call that leaves the table as it is: whether it gives what it is to give.
+    fn gives(&self, step: &Step) -> Result<bool, NoMemory> {
+        Ok(match *step {
+            Counts(moment, wanted) => self.counts(moment) == wanted,
+            Told(port, moment, wanted) => self.told(port, moment)? == wanted,
+            Awaiting(link, number, moment, wanted) => self.awaiting(link, number, moment) == wanted,
+            SentAt(k, moment, wanted) => self.sent_at(k, moment) == wanted,
+            Sends(moment, wanted) => self.sends(moment) == wanted,
+            _ => false,
+        })
+    }
+}
+
+/// A caller of a new table.
+fn begin(rt: &HostRuntime, capacity: u32, patience: u64, retention: u64) -> Result<Caller, Fail> {
+    let random = RandomState::new(rt)?;
+    Ok(Caller::new(rt.alloc(), random, capacity, patience, retention)?)
+}
+
+/// Makes the calls in turn. Each gives what it is to give.
+fn walk(rt: &impl Abort, caller: &mut Caller, steps: &[Step]) -> Result<(), Fail> {
+    for (place, step) in steps.iter().enumerate() {
+        assert!(rt; caller.takes(step)?, "step {place}");
+    }
+    Ok(())
+}
+
 #[test]
 fn a_place_is_free_when_its_entry_is_dead(rt: HostRuntime) -> Result<(), Fail> {
-    let mut caller = Caller::new(rt.alloc(), RandomState::new(&rt)?, 2, 1000, 1000)?;
-    assert!(rt; caller.admit(1, 0, 7)?);
-    caller.wait_until(500);
-    assert!(rt; caller.admit(2, 1, 8)?);
-    assert_eq!(rt; caller.counts(999), (2, 2, true));
-    assert_eq!(rt; caller.counts(1000), (1, 1, false));
-    assert_eq!(rt; caller.counts(1500), (0, 0, false));
-    Ok(())
+    let steps = [
+        Admit(1, 0, 7, true),
+        WaitUntil(500),
+        Admit(2, 1, 8, true),
+        Counts(999, (2, 2, true)),
+        Counts(1000, (1, 1, false)),
+        Counts(1500, (0, 0, false)),
+    ];
+    walk(&rt, &mut begin(&rt, 2, 1000, 1000)?, &steps)
 }
 
 #[test]
 fn a_key_comes_again_when_its_entry_is_dead(rt: HostRuntime) -> Result<(), Fail> {
-    let mut caller = Caller::new(rt.alloc(), RandomState::new(&rt)?, 2, 1000, 1000)?;
-    assert!(rt; caller.admit(1, 0, 7)?);
-    caller.wait_until(999);
-    assert!(rt; !caller.admit(1, 2, 9)?);
-    caller.wait_until(1000);
-    assert!(rt; caller.admit(1, 2, 9)?);
-    assert_eq!(rt; caller.awaiting(1, 0, 1000), None);
-    assert_eq!(rt; caller.awaiting(2, 2, 1000), Some(9));
-    Ok(())
+    let steps = [
+        Admit(1, 0, 7, true),
+        WaitUntil(999),
+        Admit(1, 2, 9, false),
+        WaitUntil(1000),
+        Admit(1, 2, 9, true),
+        Awaiting(1, 0, 1000, None),
+        Awaiting(2, 2, 1000, Some(9)),
+    ];
+    walk(&rt, &mut begin(&rt, 2, 1000, 1000)?, &steps)
+}
+
+/// What is to be said of a request that waits at this moment.
+fn waits_at(moment: u64) -> [Step; 4] {
+    [
+        Counts(moment, (1, 1, true)),
+        Told(1, moment, "waiting"),
+        Awaiting(1, 0, moment, Some(7)),
+        SentAt(0, moment, Some(7)),
+    ]
+}
+
+/// What is to be said of a request that is dead at this moment.
+fn dead_at(moment: u64) -> [Step; 4] {
+    [
+        Counts(moment, (0, 0, false)),
+        Told(1, moment, "new"),
+        Awaiting(1, 0, moment, None),
+        SentAt(0, moment, None),
+    ]
 }
 
 #[test]
 fn a_request_waits_for_its_patience(rt: HostRuntime) -> Result<(), Fail> {
-    let mut caller = Caller::new(rt.alloc(), RandomState::new(&rt)?, 1, 500, 30_000)?;
-    caller.wait_until(1000);
-    assert!(rt; caller.admit(1, 0, 7)?);
+    let mut caller = begin(&rt, 1, 500, 30_000)?;
+    walk(&rt, &mut caller, &[WaitUntil(1000), Admit(1, 0, 7, true)])?;
     for moment in [0, 1000, 1499] {
-        assert_eq!(rt; caller.counts(moment), (1, 1, true));
-        assert_eq!(rt; caller.told(1, moment)?, "waiting");
-        assert_eq!(rt; caller.awaiting(1, 0, moment), Some(7));
-        assert_eq!(rt; caller.sent_at(0, moment), Some(7));
+        walk(&rt, &mut caller, &waits_at(moment))?;
     }
     for moment in [1500, u64::MAX] {
-        assert_eq!(rt; caller.counts(moment), (0, 0, false));
-        assert_eq!(rt; caller.told(1, moment)?, "new");
-        assert_eq!(rt; caller.awaiting(1, 0, moment), None);
-        assert_eq!(rt; caller.sent_at(0, moment), None);
+        walk(&rt, &mut caller, &dead_at(moment))?;
     }
     Ok(())
+}
+
+/// How two requests come, and their answers at 4999.
+fn answers_at_4999() -> [Step; 6] {
+    [
+        Admit(1, 0, 7, true),
+        Admit(2, 0, 8, true),
+        WaitUntil(4999),
+        Reply(1, 0, true),
+        Silence(1, 0, false),
+        Silence(2, 0, true),
+    ]
+}
+
+/// What is to be said of the two answers while they are kept.
+fn kept_at(moment: u64) -> [Step; 5] {
+    [
+        Counts(moment, (2, 0, true)),
+        Told(1, moment, "the reply"),
+        Told(2, moment, "silent"),
+        Awaiting(1, 0, moment, None),
+        SentAt(0, moment, None),
+    ]
+}
+
+/// What is to be said when the two answers are kept no more.
+fn gone_at_5999() -> [Step; 5] {
+    [
+        Counts(5999, (0, 0, false)),
+        Told(1, 5999, "new"),
+        Told(2, 5999, "new"),
+        Purge(5999),
+        Counts(0, (0, 0, false)),
+    ]
 }
 
 #[test]
 fn an_answer_is_kept_for_the_retention_from_its_moment(rt: HostRuntime) -> Result<(), Fail> {
-    let mut caller = Caller::new(rt.alloc(), RandomState::new(&rt)?, 2, 5000, 1000)?;
-    assert!(rt; caller.admit(1, 0, 7)?);
-    assert!(rt; caller.admit(2, 0, 8)?);
-    caller.wait_until(4999);
-    assert!(rt; caller.settle(1, 0, Some(b"reply"))?);
-    assert!(rt; !caller.settle(1, 0, None)?);
-    assert!(rt; caller.settle(2, 0, None)?);
+    let mut caller = begin(&rt, 2, 5000, 1000)?;
+    walk(&rt, &mut caller, &answers_at_4999())?;
     for moment in [4999, 5998] {
-        assert_eq!(rt; caller.counts(moment), (2, 0, true));
-        assert_eq!(rt; caller.told(1, moment)?, "the reply");
-        assert_eq!(rt; caller.told(2, moment)?, "silent");
-        assert_eq!(rt; caller.awaiting(1, 0, moment), None);
-        assert_eq!(rt; caller.sent_at(0, moment), None);
+        walk(&rt, &mut caller, &kept_at(moment))?;
     }
-    assert_eq!(rt; caller.counts(5999), (0, 0, false));
-    assert_eq!(rt; caller.told(1, 5999)?, "new");
-    assert_eq!(rt; caller.told(2, 5999)?, "new");
-    caller.purge(5999);
-    assert_eq!(rt; caller.counts(0), (0, 0, false));
-    Ok(())
+    walk(&rt, &mut caller, &gone_at_5999())
 }
 
 #[test]
 fn an_end_past_the_last_moment_never_comes(rt: HostRuntime) -> Result<(), Fail> {
-    let mut caller = Caller::new(rt.alloc(), RandomState::new(&rt)?, 1, 10, 10)?;
-    caller.wait_until(u64::MAX - 5);
-    assert!(rt; caller.admit(1, 0, 7)?);
-    assert_eq!(rt; caller.counts(u64::MAX), (1, 1, true));
-    caller.wait_until(u64::MAX);
-    assert!(rt; caller.settle(1, 0, None)?);
-    caller.purge(u64::MAX);
-    assert_eq!(rt; caller.counts(u64::MAX), (1, 0, true));
-    Ok(())
+    let steps = [
+        WaitUntil(u64::MAX - 5),
+        Admit(1, 0, 7, true),
+        Counts(u64::MAX, (1, 1, true)),
+        WaitUntil(u64::MAX),
+        Silence(1, 0, true),
+        Purge(u64::MAX),
+        Counts(u64::MAX, (1, 0, true)),
+    ];
+    walk(&rt, &mut begin(&rt, 1, 10, 10)?, &steps)
 }
 
 #[test]
 fn a_number_is_free_on_a_later_link(rt: HostRuntime) -> Result<(), Fail> {
-    let mut caller = Caller::new(rt.alloc(), RandomState::new(&rt)?, 1, 1000, 1000)?;
-    assert!(rt; caller.admit(1, 0, 7)?);
-    assert!(rt; caller.settle(1, 0, None)?);
-    caller.wait_until(999);
-    assert!(rt; !caller.admit(1, 0, 8)?);
-    caller.wait_until(1000);
-    assert!(rt; caller.admit(1, 0, 8)?);
-    assert_eq!(rt; caller.awaiting(1, 0, 1000), None);
-    assert_eq!(rt; caller.awaiting(2, 0, 1000), Some(8));
-    assert_eq!(rt; caller.sent_at(0, 1000), Some(8));
-    Ok(())
+    let steps = [
+        Admit(1, 0, 7, true),
+        Silence(1, 0, true),
+        WaitUntil(999),
+        Admit(1, 0, 8, false),
+        WaitUntil(1000),
+        Admit(1, 0, 8, true),
+        Awaiting(1, 0, 1000, None),
+        Awaiting(2, 0, 1000, Some(8)),
+        SentAt(0, 1000, Some(8)),
+    ];
+    walk(&rt, &mut begin(&rt, 1, 1000, 1000)?, &steps)
 }
 
 #[test]
 fn what_waits_goes_out_again(rt: HostRuntime) -> Result<(), Fail> {
-    let mut caller = Caller::new(rt.alloc(), RandomState::new(&rt)?, 4, 1000, 5000)?;
-    caller.relink();
-    assert!(rt; caller.admit(1, 9, 7)?);
-    caller.relink();
-    assert_eq!(rt; caller.awaiting(3, 0, 0), Some(7));
-    assert_eq!(rt; caller.awaiting(2, 9, 0), None);
-    Ok(())
+    let steps = [
+        Relink,
+        Admit(1, 9, 7, true),
+        Relink,
+        Awaiting(3, 0, 0, Some(7)),
+        Awaiting(2, 9, 0, None),
+    ];
+    walk(&rt, &mut begin(&rt, 4, 1000, 5000)?, &steps)
 }
 
 #[test]
 fn an_answered_one_keeps_its_number(rt: HostRuntime) -> Result<(), Fail> {
-    let mut caller = Caller::new(rt.alloc(), RandomState::new(&rt)?, 4, 1000, 5000)?;
-    assert!(rt; caller.admit(1, 9, 7)?);
-    assert!(rt; caller.admit(2, 9, 8)?);
-    assert!(rt; caller.settle(1, 9, Some(b"reply"))?);
-    caller.relink();
-    assert_eq!(rt; caller.awaiting(3, 0, 0), Some(8));
-    assert_eq!(rt; caller.awaiting(3, 1, 0), None);
-    assert_eq!(rt; caller.told(1, 0)?, "the reply");
-    Ok(())
+    let steps = [
+        Admit(1, 9, 7, true),
+        Admit(2, 9, 8, true),
+        Reply(1, 9, true),
+        Relink,
+        Awaiting(3, 0, 0, Some(8)),
+        Awaiting(3, 1, 0, None),
+        Told(1, 0, "the reply"),
+    ];
+    walk(&rt, &mut begin(&rt, 4, 1000, 5000)?, &steps)
 }
 
 #[test]
 fn a_pass_gives_what_the_live_ones_that_wait_sent(rt: HostRuntime) -> Result<(), Fail> {
-    let mut caller = Caller::new(rt.alloc(), RandomState::new(&rt)?, 4, 1000, 5000)?;
-    assert!(rt; caller.admit(1, 0, 7)?);
-    caller.wait_until(500);
-    assert!(rt; caller.admit(2, 0, 8)?);
-    assert!(rt; caller.admit(3, 0, 9)?);
-    assert!(rt; caller.settle(3, 0, None)?);
-    assert_eq!(rt; caller.sends(999), 78);
-    assert_eq!(rt; caller.sends(1000), 8);
-    Ok(())
+    let steps = [
+        Admit(1, 0, 7, true),
+        WaitUntil(500),
+        Admit(2, 0, 8, true),
+        Admit(3, 0, 9, true),
+        Silence(3, 0, true),
+        Sends(999, 78),
+        Sends(1000, 8),
+    ];
+    walk(&rt, &mut begin(&rt, 4, 1000, 5000)?, &steps)
 }
 
-#[test]
-fn the_largest_table_takes_many(rt: HostRuntime) -> Result<(), Fail> {
-    let mut caller = Caller::new(rt.alloc(), RandomState::new(&rt)?, 65_536, 1000, 1000)?;
+/// Takes up a request from each of the ports 1 to 100, at the moment of its number.
+fn admit_100(caller: &mut Caller) -> Result<(), Fail> {
     for port in 1..101 {
         caller.wait_until(port as u64);
         if !caller.admit(port, 0, port as u8)? {
             return Err(NoMemory.into());
         }
     }
-    assert_eq!(rt; caller.counts(1000), (100, 100, false));
-    assert_eq!(rt; caller.counts(1050), (50, 50, false));
-    caller.relink();
-    assert_eq!(rt; caller.awaiting(101, 0, 100), Some(1));
-    assert_eq!(rt; caller.awaiting(101, 99, 100), Some(100));
-    assert_eq!(rt; caller.sent_at(99, 100), Some(100));
     Ok(())
+}
+
+#[test]
+fn the_largest_table_takes_many(rt: HostRuntime) -> Result<(), Fail> {
+    let mut caller = begin(&rt, 65_536, 1000, 1000)?;
+    admit_100(&mut caller)?;
+    let steps = [
+        Counts(1000, (100, 100, false)),
+        Counts(1050, (50, 50, false)),
+        Relink,
+        Awaiting(101, 0, 100, Some(1)),
+        Awaiting(101, 99, 100, Some(100)),
+        SentAt(99, 100, Some(100)),
+    ];
+    walk(&rt, &mut caller, &steps)
+}
+
+/// Whether the first request is there and the second one isn't, which is so or not so for both, and one lives before the first
+/// one's end.
+fn has_first_alone(caller: &Caller, wanted: bool) -> bool {
+    caller.awaiting(1, 0, 999).is_some() == wanted
+        && caller.awaiting(2, 0, 1000).is_none() == wanted
+        && caller.counts(999).0 == 1
 }
 
 /// An allocation that fails while the second request is taken up is met here.
 #[test]
 fn a_refused_request_leaves_what_was_there(rt: HostRuntime) -> Result<(), Fail> {
-    let mut caller = Caller::new(rt.alloc(), RandomState::new(&rt)?, 1, 1000, 1000)?;
-    assert!(rt; caller.admit(1, 0, 7)?);
-    caller.wait_until(1000);
+    let mut caller = begin(&rt, 1, 1000, 1000)?;
+    walk(&rt, &mut caller, &[Admit(1, 0, 7, true), WaitUntil(1000)])?;
     let is_refused = caller.admit(2, 0, 8).is_err();
     // The first one is dead by then, and is dropped only where the second one is taken up.
-    assert_eq!(rt; caller.awaiting(1, 0, 999).is_some(), is_refused);
-    assert_eq!(rt; caller.awaiting(2, 0, 1000).is_none(), is_refused);
-    assert_eq!(rt; caller.counts(999).0, 1);
+    assert!(rt; has_first_alone(&caller, is_refused));
     Ok(())
 }
