@@ -1,10 +1,11 @@
 /* Sends logins to a RADIUS server, so many in flight at once, for so many seconds, and says how many were answered.
  *
- *     load ADDRESS PORT SECRET IN_FLIGHT SECONDS [PID]
+ *     load ADDRESS PORT SECRET IN_FLIGHT SECONDS [PID [RATE]]
  *
  * Each request is a new one: another authenticator, and the password nemo/arctangent hidden under it (RFC 2865, section
  * 5.2). One that isn't answered within two seconds is counted as lost and takes its place anew. Where PID is given, the
- * processor time of that process over the run is told, too. One line a second tells the answers of that second.
+ * processor time of that process over the run is told, too; where RATE is, at most so many are sent a second. One line a
+ * second tells the answers of that second.
  *
  * cc -O2 -o load load.c -lcrypto
  */
@@ -35,7 +36,7 @@ struct door {
 
 static struct door doors[MOST_SOCKETS];
 static const char *secret;
-static int64_t answered, accepted, lost, spent, slowest;
+static int64_t answered, accepted, lost, spent, slowest, sent, begin, rate;
 
 static int64_t now(void) {
     struct timespec t;
@@ -67,6 +68,9 @@ static void digest(const uint8_t *first, size_t first_length, const uint8_t *sec
     EVP_DigestFinal_ex(context, out, NULL);
 }
 
+/* Whether one more may be sent at this moment. */
+static int may_send(int64_t moment) { return rate == 0 || sent < (moment - begin) * rate / 1000000 + 1; }
+
 static void send_request(struct door *door, int identifier) {
     uint8_t packet[64] = {1, (uint8_t)identifier, 0, 0}, mask[16];
     static const char password[16] = "arctangent";
@@ -83,6 +87,7 @@ static void send_request(struct door *door, int identifier) {
     packet[3] = (uint8_t)length;
     door->pending[identifier].waits = 1;
     door->pending[identifier].sent = now();
+    sent++;
     send(door->socket, packet, length, 0);
 }
 
@@ -99,7 +104,7 @@ static void take_replies(struct door *door, int64_t end) {
         accepted += reply[0] == 2;
         spent += took;
         if (took > slowest) slowest = took;
-        if (moment < end) send_request(door, reply[1]);
+        if (moment < end && may_send(moment)) send_request(door, reply[1]);
     }
 }
 
@@ -110,6 +115,17 @@ static void send_lost_anew(int count, int64_t moment) {
                 lost++;
                 send_request(&doors[d], i);
             }
+}
+
+/* Sends what was held back for the rate, and says whether some still is. */
+static int send_held(int count, int64_t moment) {
+    for (int d = 0; d < count; d++)
+        for (int i = 0; i < doors[d].used; i++)
+            if (!doors[d].pending[i].waits) {
+                if (!may_send(moment)) return 1;
+                send_request(&doors[d], i);
+            }
+    return 0;
 }
 
 static int open_doors(const char *address, int port, int in_flight) {
@@ -130,7 +146,7 @@ static int open_doors(const char *address, int port, int in_flight) {
 
 int main(int argc, char **argv) {
     if (argc < 6) {
-        fprintf(stderr, "usage: load ADDRESS PORT SECRET IN_FLIGHT SECONDS [PID]\n");
+        fprintf(stderr, "usage: load ADDRESS PORT SECRET IN_FLIGHT SECONDS [PID [RATE]]\n");
         return 1;
     }
     secret = argv[3];
@@ -138,13 +154,13 @@ int main(int argc, char **argv) {
     int count = open_doors(argv[1], atoi(argv[2]), in_flight);
     struct pollfd polled[MOST_SOCKETS];
     int64_t used = argc > 6 ? processor_time(argv[6]) : -1;
-    int64_t begin = now(), end = begin + atoll(argv[5]) * 1000000, second = begin + 1000000, before = 0;
-    for (int d = 0; d < count; d++) {
-        polled[d] = (struct pollfd){.fd = doors[d].socket, .events = POLLIN};
-        for (int i = 0; i < doors[d].used; i++) send_request(&doors[d], i);
-    }
+    rate = argc > 7 ? atoll(argv[7]) : 0;
+    begin = now();
+    int64_t end = begin + atoll(argv[5]) * 1000000, second = begin + 1000000, before = 0;
+    for (int d = 0; d < count; d++) polled[d] = (struct pollfd){.fd = doors[d].socket, .events = POLLIN};
     for (int64_t moment = begin; moment < end; moment = now()) {
-        poll(polled, (nfds_t)count, 100);
+        int held = send_held(count, moment);
+        poll(polled, (nfds_t)count, held ? 1 : 100);
         for (int d = 0; d < count; d++)
             if (polled[d].revents) take_replies(&doors[d], end);
         if (moment >= second) {
