@@ -246,6 +246,13 @@ fn walk(rt: &impl Abort, caller: &mut Caller, steps: &[Step]) -> Result<(), Fail
     Ok(())
 }
 
+/// Makes the calls in turn, and drops the table.
+fn walk_alone(rt: &impl Abort, mut caller: Caller, steps: &[Step]) -> Result<(), Fail> {
+    let walked = walk(rt, &mut caller, steps);
+    drop(caller);
+    walked
+}
+
 #[test]
 fn a_place_is_free_when_its_entry_is_dead(rt: HostRuntime) -> Result<(), Fail> {
     let steps = [
@@ -256,7 +263,7 @@ fn a_place_is_free_when_its_entry_is_dead(rt: HostRuntime) -> Result<(), Fail> {
         Counts(1000, (1, 1, false)),
         Counts(1500, (0, 0, false)),
     ];
-    walk(&rt, &mut begin(&rt, 2, 1000, 1000)?, &steps)
+    walk_alone(&rt, begin(&rt, 2, 1000, 1000)?, &steps)
 }
 
 #[test]
@@ -270,7 +277,7 @@ fn a_key_comes_again_when_its_entry_is_dead(rt: HostRuntime) -> Result<(), Fail>
         Awaiting(1, 0, 1000, None),
         Awaiting(2, 2, 1000, Some(9)),
     ];
-    walk(&rt, &mut begin(&rt, 2, 1000, 1000)?, &steps)
+    walk_alone(&rt, begin(&rt, 2, 1000, 1000)?, &steps)
 }
 
 /// What is to be said of a request that waits at this moment.
@@ -293,17 +300,24 @@ fn dead_at(moment: u64) -> [Step; 4] {
     ]
 }
 
+/// A request waits for 500, and is dead then.
+fn walk_for_patience(rt: &impl Abort, caller: &mut Caller) -> Result<(), Fail> {
+    walk(rt, caller, &[WaitUntil(1000), Admit(1, 0, 7, true)])?;
+    for moment in [0, 1000, 1499] {
+        walk(rt, caller, &waits_at(moment))?;
+    }
+    for moment in [1500, u64::MAX] {
+        walk(rt, caller, &dead_at(moment))?;
+    }
+    Ok(())
+}
+
 #[test]
 fn a_request_waits_for_its_patience(rt: HostRuntime) -> Result<(), Fail> {
     let mut caller = begin(&rt, 1, 500, 30_000)?;
-    walk(&rt, &mut caller, &[WaitUntil(1000), Admit(1, 0, 7, true)])?;
-    for moment in [0, 1000, 1499] {
-        walk(&rt, &mut caller, &waits_at(moment))?;
-    }
-    for moment in [1500, u64::MAX] {
-        walk(&rt, &mut caller, &dead_at(moment))?;
-    }
-    Ok(())
+    let walked = walk_for_patience(&rt, &mut caller);
+    drop(caller);
+    walked
 }
 
 /// How two requests come, and their answers at 4999.
@@ -340,14 +354,21 @@ fn gone_at_5999() -> [Step; 5] {
     ]
 }
 
+/// Two answers are kept for 1000 from their moment.
+fn walk_for_retention(rt: &impl Abort, caller: &mut Caller) -> Result<(), Fail> {
+    walk(rt, caller, &answers_at_4999())?;
+    for moment in [4999, 5998] {
+        walk(rt, caller, &kept_at(moment))?;
+    }
+    walk(rt, caller, &gone_at_5999())
+}
+
 #[test]
 fn an_answer_is_kept_for_the_retention_from_its_moment(rt: HostRuntime) -> Result<(), Fail> {
     let mut caller = begin(&rt, 2, 5000, 1000)?;
-    walk(&rt, &mut caller, &answers_at_4999())?;
-    for moment in [4999, 5998] {
-        walk(&rt, &mut caller, &kept_at(moment))?;
-    }
-    walk(&rt, &mut caller, &gone_at_5999())
+    let walked = walk_for_retention(&rt, &mut caller);
+    drop(caller);
+    walked
 }
 
 #[test]
@@ -361,7 +382,7 @@ fn an_end_past_the_last_moment_never_comes(rt: HostRuntime) -> Result<(), Fail> 
         Purge(u64::MAX),
         Counts(u64::MAX, (1, 0, true)),
     ];
-    walk(&rt, &mut begin(&rt, 1, 10, 10)?, &steps)
+    walk_alone(&rt, begin(&rt, 1, 10, 10)?, &steps)
 }
 
 #[test]
@@ -377,7 +398,7 @@ fn a_number_is_free_on_a_later_link(rt: HostRuntime) -> Result<(), Fail> {
         Awaiting(2, 0, 1000, Some(8)),
         SentAt(0, 1000, Some(8)),
     ];
-    walk(&rt, &mut begin(&rt, 1, 1000, 1000)?, &steps)
+    walk_alone(&rt, begin(&rt, 1, 1000, 1000)?, &steps)
 }
 
 #[test]
@@ -389,7 +410,7 @@ fn what_waits_goes_out_again(rt: HostRuntime) -> Result<(), Fail> {
         Awaiting(3, 0, 0, Some(7)),
         Awaiting(2, 9, 0, None),
     ];
-    walk(&rt, &mut begin(&rt, 4, 1000, 5000)?, &steps)
+    walk_alone(&rt, begin(&rt, 4, 1000, 5000)?, &steps)
 }
 
 #[test]
@@ -403,7 +424,7 @@ fn an_answered_one_keeps_its_number(rt: HostRuntime) -> Result<(), Fail> {
         Awaiting(3, 1, 0, None),
         Told(1, 0, "the reply"),
     ];
-    walk(&rt, &mut begin(&rt, 4, 1000, 5000)?, &steps)
+    walk_alone(&rt, begin(&rt, 4, 1000, 5000)?, &steps)
 }
 
 #[test]
@@ -417,7 +438,7 @@ fn a_pass_gives_what_the_live_ones_that_wait_sent(rt: HostRuntime) -> Result<(),
         Sends(999, 78),
         Sends(1000, 8),
     ];
-    walk(&rt, &mut begin(&rt, 4, 1000, 5000)?, &steps)
+    walk_alone(&rt, begin(&rt, 4, 1000, 5000)?, &steps)
 }
 
 /// Takes up a request from each of the ports 1 to 100, at the moment of its number.
@@ -431,10 +452,9 @@ fn admit_100(caller: &mut Caller) -> Result<(), Fail> {
     Ok(())
 }
 
-#[test]
-fn the_largest_table_takes_many(rt: HostRuntime) -> Result<(), Fail> {
-    let mut caller = begin(&rt, 65_536, 1000, 1000)?;
-    admit_100(&mut caller)?;
+/// 100 requests are taken up, and wait for 1000 each.
+fn walk_with_100(rt: &impl Abort, caller: &mut Caller) -> Result<(), Fail> {
+    admit_100(caller)?;
     let steps = [
         Counts(1000, (100, 100, false)),
         Counts(1050, (50, 50, false)),
@@ -443,7 +463,15 @@ fn the_largest_table_takes_many(rt: HostRuntime) -> Result<(), Fail> {
         Awaiting(101, 99, 100, Some(100)),
         SentAt(99, 100, Some(100)),
     ];
-    walk(&rt, &mut caller, &steps)
+    walk(rt, caller, &steps)
+}
+
+#[test]
+fn the_largest_table_takes_many(rt: HostRuntime) -> Result<(), Fail> {
+    let mut caller = begin(&rt, 65_536, 1000, 1000)?;
+    let walked = walk_with_100(&rt, &mut caller);
+    drop(caller);
+    walked
 }
 
 /// Whether the first request is there and the second one isn't, which is so or not so for both, and one lives before the first
@@ -454,13 +482,20 @@ fn has_first_alone(caller: &Caller, wanted: bool) -> bool {
         && caller.counts(999).0 == 1
 }
 
+/// A second request is taken up when the first one is dead, or refused since an allocation fails.
+fn walk_to_refusal(rt: &impl Abort, caller: &mut Caller) -> Result<(), Fail> {
+    walk(rt, caller, &[Admit(1, 0, 7, true), WaitUntil(1000)])?;
+    let is_refused = caller.admit(2, 0, 8).is_err();
+    // The first one is dead by then, and is dropped only where the second one is taken up.
+    assert!(rt; has_first_alone(caller, is_refused));
+    Ok(())
+}
+
 /// An allocation that fails while the second request is taken up is met here.
 #[test]
 fn a_refused_request_leaves_what_was_there(rt: HostRuntime) -> Result<(), Fail> {
     let mut caller = begin(&rt, 1, 1000, 1000)?;
-    walk(&rt, &mut caller, &[Admit(1, 0, 7, true), WaitUntil(1000)])?;
-    let is_refused = caller.admit(2, 0, 8).is_err();
-    // The first one is dead by then, and is dropped only where the second one is taken up.
-    assert!(rt; has_first_alone(&caller, is_refused));
-    Ok(())
+    let walked = walk_to_refusal(&rt, &mut caller);
+    drop(caller);
+    walked
 }

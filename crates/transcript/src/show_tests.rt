@@ -1,7 +1,9 @@
 //! Lines that show a packet or a message, and settings as lines. What is expected comes from outside.
 
 use crate::{ShowFault, print_settings, show_line};
+use std::alloc::Global;
 use std::test::Fail;
+use wire_core::Octets;
 
 fn packet_line() -> &'static str {
     "radius 01050026000102030405060708090a0b0c0d0e0f01066e656d6f20066e617331050600000003"
@@ -56,51 +58,76 @@ client nas1 192.168.1.16 78797a7a7935343631 nas1.example example plain refuse -
 "
 }
 
+/// Whether this line is shown so.
+fn shows(alloc: Global, line: &str, text: &str) -> Result<bool, Fail> {
+    let shown = show_line(alloc, line.as_bytes())?;
+    Ok(shown.as_slice() == text.as_bytes())
+}
+
 #[test]
 fn packets_and_messages(rt: HostRuntime) -> Result<(), Fail> {
-    for (line, text) in [
-        (packet_line(), packet_text()),
-        (message_line(), message_text()),
-        ("radius 0105", "fault 1 Short\n"),
-    ] {
-        let shown = show_line(rt.alloc(), line.as_bytes())?;
-        assert!(rt; shown.as_slice() == text.as_bytes(), "{line}");
-    }
+    assert!(rt; shows(rt.alloc(), packet_line(), packet_text())?);
+    assert!(rt; shows(rt.alloc(), message_line(), message_text())?);
+    assert!(rt; shows(rt.alloc(), "radius 0105", "fault 1 Short\n")?);
     Ok(())
+}
+
+/// Whether this line is bad for this reason.
+fn is_bad(alloc: Global, line: &[u8], wanted: u32) -> bool {
+    match show_line(alloc, line) {
+        Err(ShowFault::Bad { reason }) => reason == wanted,
+        _ => false,
+    }
+}
+
+/// Bad lines, each with its reason.
+const BAD_LINES: &str = "\
+|2
+radius|2
+Radius 0105|2
+radius 0105 |2
+radius |3
+diameter 010|3";
+
+/// Whether the line before the bar is bad for the reason behind it.
+fn is_bad_case(alloc: Global, case: &str) -> Result<bool, Fail> {
+    let (line, reason) = case.split_once('|').unwrap_or((case, ""));
+    Ok(is_bad(alloc, line.as_bytes(), reason.parse::<u32>()?))
 }
 
 #[test]
 fn bad_lines(rt: HostRuntime) -> Result<(), Fail> {
-    for (line, reason) in [
-        ("", 2),
-        ("radius", 2),
-        ("Radius 0105", 2),
-        ("radius 0105 ", 2),
-        ("radius ", 3),
-        ("diameter 010", 3),
-    ] {
-        let fault = show_line(rt.alloc(), line.as_bytes()).err();
-        assert_eq!(rt; fault, Some(ShowFault::Bad { reason }), "{line}");
+    for case in BAD_LINES.lines() {
+        assert!(rt; is_bad_case(rt.alloc(), case)?, "{case}");
     }
     Ok(())
 }
 
+/// A line as long as one may be.
+fn long_line(alloc: Global) -> Result<Vec<u8>, Fail> {
+    let mut line = Vec::from_slice(alloc, b"diameter ")?;
+    line.extend_from_slice(&[b'0'; 139_991])?;
+    Ok(line)
+}
+
 #[test]
 fn longest_line(rt: HostRuntime) -> Result<(), Fail> {
-    let mut line = Vec::from_slice(rt.alloc(), b"diameter ")?;
-    line.extend_from_slice(&[b'0'; 139_991])?;
-    let fault = show_line(rt.alloc(), line.as_slice()).err();
-    assert_eq!(rt; fault, Some(ShowFault::Bad { reason: 3 }));
+    let mut line = long_line(rt.alloc())?;
+    assert!(rt; is_bad(rt.alloc(), line.as_slice(), 3));
     line.push(b'0')?;
-    let fault = show_line(rt.alloc(), line.as_slice()).err();
-    assert_eq!(rt; fault, Some(ShowFault::Bad { reason: 1 }));
+    assert!(rt; is_bad(rt.alloc(), line.as_slice(), 1));
     Ok(())
+}
+
+/// The settings of a text, as lines.
+fn lines_of(alloc: Global, text: &str) -> Result<Octets, Fail> {
+    let config = agent_config::read(alloc, text.as_bytes())?;
+    Ok(print_settings(alloc, &config)?)
 }
 
 #[test]
 fn settings_as_lines(rt: HostRuntime) -> Result<(), Fail> {
-    let config = agent_config::read(rt.alloc(), settings().as_bytes())?;
-    let lines = print_settings(rt.alloc(), &config)?;
+    let lines = lines_of(rt.alloc(), settings())?;
     assert!(rt; lines.as_slice() == settings_lines().as_bytes());
     Ok(())
 }
