@@ -68,8 +68,16 @@ static void digest(const uint8_t *first, size_t first_length, const uint8_t *sec
     EVP_DigestFinal_ex(context, out, NULL);
 }
 
-/* Whether one more may be sent at this moment. */
-static int may_send(int64_t moment) { return rate == 0 || sent < (moment - begin) * rate / 1000000 + 1; }
+/* Whether one more may be sent at this moment: each hundredth of a second has its share, and what is left of it is lost. */
+static int may_send(int64_t moment) {
+    static int64_t slot, before;
+    if (rate == 0) return 1;
+    if ((moment - begin) / 10000 != slot) {
+        slot = (moment - begin) / 10000;
+        before = sent;
+    }
+    return sent - before < rate / 100;
+}
 
 static void send_request(struct door *door, int identifier) {
     uint8_t packet[64] = {1, (uint8_t)identifier, 0, 0}, mask[16];
