@@ -2,7 +2,7 @@
 //! or are the peers of its tests. Where the status isn't 0, its name stands on stderr.
 #![tactic(auto)]
 
-ghost use Rattle.std.specs.Prelude.{◌≡◌};
+ghost use Rattle.std.specs.Prelude.{◌≡◌, IfOk};
 
 mod agent;
 mod command;
@@ -24,7 +24,7 @@ use std::{env, io, rt};
 use wire_core::{ReaderSource, Sink, Source, WriterSink};
 use wire_devices::{
     Clock, Dialer, LinkGot, LinkIn, SystemClock, TcpAccepter, TcpDialer, TcpIn, TcpOut, ThreadCrew,
-    UdpDatagrams,
+    UdpDatagrams, Waker,
 };
 
 const USAGE: &str = "\
@@ -249,7 +249,30 @@ fn take_leave<C: Clock + Drop, R: Drop>(trail: Trail<C, UdpDatagrams, TcpIn, Tcp
     }
 }
 
-/// Serves at this address, by the home server at that one.
+/// A socket at this address and port, or how a run ends without it.
+fn socket_at<R: Net>(rt: &R, address: u32, port: u16) -> Result<UdpDatagrams, Outcome>
+    ensures { IfOk result (λ socket. socket.row ≡ 0) }
+{
+    UdpDatagrams::bind(rt, address, port).map_err(|e| unopened(
+        Status::DatagramFault,
+        address,
+        port,
+        e,
+    ))
+}
+
+/// A listener at this address and port, or how a run ends without it.
+fn accepter_at<R: Net<Listener = TcpListener, Stream = TcpStream> + Copy>(
+    rt: R,
+    address: u32,
+    port: u16,
+) -> Result<TcpAccepter<R>, Outcome>
+    ensures { IfOk result (λ accepter. accepter.row ≡ 0) }
+{
+    TcpAccepter::bind(rt, address, port).map_err(|e| unopened(Status::LinkFault, address, port, e))
+}
+
+/// Serves by these sockets and the home server at this address. Whoever looks at one of them wakes the link's writer before.
 fn serve<R, S, K>(
     rt: R,
     alloc: Global,
@@ -274,8 +297,11 @@ where
     K: Sink,
     requires { (sockets.0.row ≡ 0) × (sockets.1.row ≡ 0) }
 {
-    let (auth, acct) = sockets;
-    let dialer = TcpDialer::new(rt, peer, port);
+    let Ok(waker) = Waker::new(alloc) else {
+        return ended(Status::OutOfMemory);
+    };
+    let (auth, acct) = (sockets.0.waking(&waker), sockets.1.waking(&waker));
+    let dialer = TcpDialer::new(rt, peer, port).woken_by(&waker);
     let Finish {
         status,
         world,
@@ -372,14 +398,6 @@ where
     S: Source,
     K: Sink,
 {
-    let socket_at = |address: u32, port: u16| {
-        UdpDatagrams::bind(&rt, address, port).map_err(|e| unopened(
-            Status::DatagramFault,
-            address,
-            port,
-            e,
-        ))
-    };
     match places_of(words) {
         Some(
             Places::Serve {
@@ -390,22 +408,20 @@ where
                 port,
             },
         ) => {
-            let sockets = (socket_at(address, auth)?, socket_at(address, acct)?);
+            let sockets = (
+                socket_at(&rt, address, auth)?,
+                socket_at(&rt, address, acct)?,
+            );
             Ok(serve(rt, alloc, random, words, input, output, sockets, peer, port))
         }
         Some(Places::Home { address, port }) => {
-            let accepter = TcpAccepter::bind(rt, address, port).map_err(|e| unopened(
-                Status::LinkFault,
-                address,
-                port,
-                e,
-            ))?;
+            let accepter = accepter_at(rt, address, port)?;
             let none = UdpDatagrams::closed();
             Ok(run_with(rt, alloc, random, words, input, output, none, accepter))
         }
         // The system chooses where the packets of the client come from.
         Some(Places::Nas { .. }) => {
-            let socket = socket_at(0, 0)?;
+            let socket = socket_at(&rt, 0, 0)?;
             let none = TcpDialer::new(rt, 0, 0);
             Ok(run_with(rt, alloc, random, words, input, output, socket, none))
         }

@@ -7,6 +7,7 @@ use crate::streams::{TcpIn, TcpOut, ends_of};
 use std::io::ErrorKind;
 use std::marker::Model;
 use std::net::{Ipv4Addr, Net, TcpListener, TcpStream};
+use std::sync::Wait;
 use std::{io, rt};
 
 /// A listener of std, of IPv4. It makes one link, from the first connection, for which it waits. Where it isn't opened
@@ -60,7 +61,7 @@ impl<R> TcpAccepter<R> {
     }
 }
 
-impl<R: rt::Clock + Copy> Dialer for TcpAccepter<R> {
+impl<R: Wait + rt::Clock + Copy> Dialer for TcpAccepter<R> {
     type In = TcpIn;
 
     type Out = TcpOut<R>;
@@ -89,5 +90,5 @@ fn accept<R: Copy>(rt: R, listener: Option<TcpListener>) -> io::Result<(TcpIn, T
         return Err(io::Error::from(ErrorKind::NotConnected));
     };
     let (stream, _) = listener.accept()?;
-    ends_of(rt, stream)
+    ends_of(rt, stream, None)
 }

@@ -4,9 +4,11 @@ ghost use Rattle.std.specs.Prelude.{◌≡◌, IfOk};
 
 use crate::devices::Dialer;
 use crate::streams::{TcpIn, TcpOut, ends_of};
+use crate::waker::Waker;
 use std::io::ErrorKind;
 use std::marker::Model;
 use std::net::{IpAddr, Ipv4Addr, Net, SocketAddr, TcpListener, TcpStream};
+use std::sync::Wait;
 use std::time::Duration;
 use std::{io, rt, thread};
 
@@ -25,6 +27,7 @@ pub struct TcpDialer<R> {
     rt: R,
     address: u32,
     port: u16,
+    waker: Option<Waker>,
     /// The pause after the next dial that is refused, in milliseconds.
     pause: u64,
     refusal: Option<ErrorKind>,
@@ -52,11 +55,20 @@ impl<R> TcpDialer<R> {
             rt,
             address,
             port,
+            waker: None,
             pause: SHORT_PAUSE,
             refusal: None,
             faults: 0,
             row: 0,
         }
+    }
+
+    /// The same dialer, whose links' writers rest on this.
+    pub fn woken_by(mut self, waker: &Waker) -> TcpDialer<R>
+        ensures { result ≡ self }
+    {
+        self.waker = waker.another();
+        self
     }
 
     /// Why the last dial made no link, where it made none.
@@ -65,7 +77,7 @@ impl<R> TcpDialer<R> {
     }
 }
 
-impl<R: Net<Listener = TcpListener, Stream = TcpStream> + rt::Clock + Copy> Dialer
+impl<R: Net<Listener = TcpListener, Stream = TcpStream> + Wait + rt::Clock + Copy> Dialer
     for TcpDialer<R> {
     type In = TcpIn;
 
@@ -74,7 +86,8 @@ impl<R: Net<Listener = TcpListener, Stream = TcpStream> + rt::Clock + Copy> Dial
     ghost told = { λ d. d };
 
     fn dial(&mut self) -> Option<(TcpIn, TcpOut<R>)> {
-        match connect(self.rt, self.address, self.port) {
+        let waker = self.waker.as_ref().and_then(|waker| waker.another());
+        match connect(self.rt, self.address, self.port, waker) {
             Ok(ends) => {
                 self.pause = SHORT_PAUSE;
                 self.refusal = None;
@@ -97,10 +110,11 @@ fn connect<R: Net<Listener = TcpListener, Stream = TcpStream> + Copy>(
     rt: R,
     address: u32,
     port: u16,
+    waker: Option<Waker>,
 ) -> io::Result<(TcpIn, TcpOut<R>)>
     ensures { IfOk result (λ ends. (ends.0 ≡ record { faults = 0; ends = 0 }) × (ends.1 ≡ 0)) }
 {
     let place = SocketAddr::new(IpAddr::V4(Ipv4Addr::from(address)), port);
     let stream = TcpStream::connect_timeout(&rt, &place, Duration::from_millis(PATIENCE))?;
-    ends_of(rt, stream)
+    ends_of(rt, stream, waker)
 }

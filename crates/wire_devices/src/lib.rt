@@ -14,6 +14,7 @@ mod sockets_in_memory;
 mod streams;
 mod times;
 mod udp;
+mod waker;
 
 pub use accepting::TcpAccepter;
 pub use crew::ThreadCrew;
@@ -26,6 +27,7 @@ pub use sockets_in_memory::{MemoryDatagrams, SteadyDatagrams};
 pub use streams::{TcpIn, TcpOut};
 pub use times::{MemoryClock, SystemClock};
 pub use udp::UdpDatagrams;
+pub use waker::Waker;
 
 #[cfg(test)]
 mod tests;

@@ -6,9 +6,11 @@ ghost use Rattle.wire_devices.specs.Forms.{told_of_ends};
 
 use crate::devices::{LinkGot, LinkIn, LinkOut};
 use crate::udp::{LOOK, is_nothing};
+use crate::waker::Waker;
 use std::io::{Read, Write};
 use std::marker::Model;
 use std::net::{Shutdown, TcpStream};
+use std::sync::Wait;
 use std::time::Duration;
 use std::{io, rt, thread};
 use wire_core::Put;
@@ -16,14 +18,8 @@ use wire_core::Put;
 /// How long a send may wait for the other side, in milliseconds.
 const PATIENCE: u64 = 8_000;
 
-/// So many rests behind a send only let other threads go first: what follows a send mostly follows soon, and the system's
-/// shortest sleep is longer than that.
-const SHORT_RESTS: u32 = 64;
-
-/// The least and the longest pause, in microseconds.
-const SHORT_PAUSE: u64 = 16;
-
-const LONG_PAUSE: u64 = 1_000;
+/// How long a rest lasts at most, in milliseconds.
+const REST: u64 = 10;
 
 /// A stream of std that octets come from.
 #[derive(Drop)]
@@ -87,10 +83,7 @@ fn look(stream: &mut TcpStream, buf: &mut [u8]) -> LinkGot
 pub struct TcpOut<R> {
     rt: R,
     stream: TcpStream,
-    /// The rests since the last send that didn't pause.
-    rests: u32,
-    /// The next pause, in microseconds.
-    pause: u64,
+    waker: Option<Waker>,
     faults: u64,
 }
 
@@ -102,12 +95,10 @@ impl<R> Model for TcpOut<R> {
     ghost view = { λ s. s.faults };
 }
 
-impl<R: rt::Clock> LinkOut for TcpOut<R> {
+impl<R: Wait + rt::Clock> LinkOut for TcpOut<R> {
     ghost told = { λ n. record { handed = None; faults = n } };
 
     fn send(&mut self, octets: &[u8]) -> Put {
-        self.rests = 0;
-        self.pause = SHORT_PAUSE;
         match self.stream.write_all(octets) {
             Ok(()) => Put::Done,
             Err(_) => {
@@ -117,16 +108,13 @@ impl<R: rt::Clock> LinkOut for TcpOut<R> {
         }
     }
 
-    /// Lets other threads go first, for so many times behind a send, and then pauses, longer each time until something is
-    /// sent, and at most a millisecond.
+    /// Pauses until it is woken, and for a hundredth of a second at most.
     fn rest(&mut self) {
-        if self.rests < SHORT_RESTS {
-            self.rests += 1;
-            thread::yield_now();
-            return;
+        let longest = Duration::from_millis(REST);
+        match &self.waker {
+            Some(waker) => waker.rest(&self.rt, longest),
+            None => thread::sleep(&self.rt, longest),
         }
-        thread::sleep(&self.rt, Duration::from_micros(self.pause));
-        self.pause = self.pause.saturating_mul(2).min(LONG_PAUSE);
     }
 
     fn close(&mut self) {
@@ -134,8 +122,12 @@ impl<R: rt::Clock> LinkOut for TcpOut<R> {
     }
 }
 
-/// The two ends of a stream, where it can be set up.
-pub(crate) fn ends_of<R: Copy>(rt: R, stream: TcpStream) -> io::Result<(TcpIn, TcpOut<R>)>
+/// The two ends of a stream, where it can be set up. What wakes the one that octets go to from a rest may be left out.
+pub(crate) fn ends_of<R: Copy>(
+    rt: R,
+    stream: TcpStream,
+    waker: Option<Waker>,
+) -> io::Result<(TcpIn, TcpOut<R>)>
     ensures { IfOk result (λ ends. (ends.0 ≡ record { faults = 0; ends = 0 }) × (ends.1 ≡ 0)) }
 {
     stream.set_nodelay(true)?;
@@ -150,8 +142,7 @@ pub(crate) fn ends_of<R: Copy>(rt: R, stream: TcpStream) -> io::Result<(TcpIn, T
     let link_out = TcpOut {
         rt,
         stream: other,
-        rests: 0,
-        pause: SHORT_PAUSE,
+        waker,
         faults: 0,
     };
     Ok((link_in, link_out))

@@ -3,11 +3,12 @@ ghost use Rattle.std.specs.Prelude.{◌≡◌, ◌+◌, ⊤};
 use super::*;
 use std::alloc::{AllocError, Global};
 use std::collections::VecDeque;
-use std::io::{self, ErrorKind, Read, Write};
+use std::io::{ErrorKind, Read, Write};
 use std::net::{Ipv4Addr, Net, TcpListener, TcpStream, UdpSocket};
 use std::sync::{Arc, Barrier, Wait};
 use std::test::Fail;
 use std::time::{Duration, Instant};
+use std::{io, rt};
 use wire_core::{NoMemory, Octets, Put};
 
 /// 127.0.0.1.
@@ -97,58 +98,65 @@ fn clock_of_the_system(rt: HostRuntime) {
     assert!(rt; first <= now(&mut clock));
 }
 
+fn takes_without_a_fault(socket: &mut SteadyDatagrams) -> bool {
+    let mut buf = [0; 5];
+    let found = Took::From {
+        address: LOOPBACK,
+        port: 1,
+        length: 4,
+    };
+    let cut = Took::From {
+        address: LOOPBACK,
+        port: 2,
+        length: 5,
+    };
+    look(socket, &mut buf) == Took::Nothing
+        && look(socket, &mut buf) == found
+        && buf == [7, 7, 7, 7, 0]
+        && look(socket, &mut buf) == cut
+        && look(socket, &mut buf) == Took::Nothing
+}
+
 #[test]
 fn socket_without_a_fault(rt: HostRuntime) -> Result<(), Fail> {
+    let sent = datagram_of(rt.alloc(), 3, 2)?;
     let mut socket = SteadyDatagrams::new(rt.alloc(), looks(rt.alloc())?);
-    let mut buf = [0; 5];
-    assert_eq!(rt; look(&mut socket, &mut buf), Took::Nothing);
-    assert_eq!(rt;
-        look(&mut socket, &mut buf),
-        Took::From {
-            address: LOOPBACK,
-            port: 1,
-            length: 4
-        }
-    );
-    assert_eq!(rt; buf, [7, 7, 7, 7, 0]);
-    assert_eq!(rt;
-        look(&mut socket, &mut buf),
-        Took::From {
-            address: LOOPBACK,
-            port: 2,
-            length: 5
-        }
-    );
-    assert_eq!(rt; look(&mut socket, &mut buf), Took::Nothing);
-    assert_eq!(rt; post(&mut socket, 3, &[7, 7]), Put::Done);
-    assert!(rt; is_only(socket.handed(), &datagram_of(rt.alloc(), 3, 2)?));
+    assert!(rt; takes_without_a_fault(&mut socket));
+    assert!(rt; post(&mut socket, 3, &[7, 7]) == Put::Done);
+    assert!(rt; is_only(socket.handed(), &sent));
     assert!(rt; twin(&mut socket).is_some());
     Ok(())
 }
 
+/// A socket whose second receive and first send and twin fail.
+fn failing_socket(alloc: Global) -> Result<MemoryDatagrams, NoMemory> {
+    let receives = vec![in alloc; 1]?;
+    let sends = vec![in alloc; 0]?;
+    let twins = vec![in alloc; 0]?;
+    Ok(MemoryDatagrams::new(alloc, looks(alloc)?, receives, sends, twins))
+}
+
+fn takes_with_faults(socket: &mut MemoryDatagrams) -> bool {
+    let mut buf = [0; 5];
+    let found = Took::From {
+        address: LOOPBACK,
+        port: 1,
+        length: 4,
+    };
+    look(socket, &mut buf) == Took::Nothing
+        && look(socket, &mut buf) == Took::Failed
+        && look(socket, &mut buf) == found
+}
+
 #[test]
 fn socket_with_faults(rt: HostRuntime) -> Result<(), Fail> {
-    let alloc = rt.alloc();
-    let second = vec![in alloc; 1]?;
-    let first = vec![in alloc; 0]?;
-    let twins = vec![in alloc; 0]?;
-    let mut socket = MemoryDatagrams::new(alloc, looks(alloc)?, second, first, twins);
-    let mut buf = [0; 5];
-    assert_eq!(rt; look(&mut socket, &mut buf), Took::Nothing);
-    assert_eq!(rt; look(&mut socket, &mut buf), Took::Failed);
-    assert_eq!(rt;
-        look(&mut socket, &mut buf),
-        Took::From {
-            address: LOOPBACK,
-            port: 1,
-            length: 4
-        }
-    );
-    assert_eq!(rt; post(&mut socket, 3, b"a"), Put::Failed);
-    assert_eq!(rt; post(&mut socket, 3, b"b"), Put::Done);
+    let mut socket = failing_socket(rt.alloc())?;
+    assert!(rt; takes_with_faults(&mut socket));
+    assert!(rt; post(&mut socket, 3, b"a") == Put::Failed);
+    assert!(rt; post(&mut socket, 3, b"b") == Put::Done);
     assert!(rt; twin(&mut socket).is_none());
     assert!(rt; twin(&mut socket).is_some());
-    assert_eq!(rt; count(socket.handed()), 2);
+    assert!(rt; count(socket.handed()) == 2);
     Ok(())
 }
 
@@ -160,36 +168,57 @@ fn pieces(alloc: Global) -> Result<VecDeque<usize>, NoMemory> {
     Ok(looks)
 }
 
+fn hears_without_a_fault(link: &mut SteadyLinkIn) -> bool {
+    let mut buf = [0; 4];
+    hear(link, &mut buf) == LinkGot::Bytes(2)
+        && hear(link, &mut buf) == LinkGot::Nothing
+        && hear(link, &mut buf) == LinkGot::Bytes(3)
+        && buf == *b"llo\0"
+        && hear(link, &mut buf) == LinkGot::Ended
+}
+
 #[test]
 fn link_without_a_fault(rt: HostRuntime) -> Result<(), Fail> {
-    let alloc = rt.alloc();
-    let mut link = SteadyLinkIn::new(b"hello".to_vec(alloc)?, pieces(alloc)?);
-    let mut buf = [0; 4];
-    assert_eq!(rt; hear(&mut link, &mut buf), LinkGot::Bytes(2));
-    assert_eq!(rt; hear(&mut link, &mut buf), LinkGot::Nothing);
-    assert_eq!(rt; hear(&mut link, &mut buf), LinkGot::Bytes(3));
-    assert_eq!(rt; buf, *b"llo\0");
-    assert_eq!(rt; hear(&mut link, &mut buf), LinkGot::Ended);
-    let mut out = SteadyLinkOut::new(Vec::with_capacity(alloc, 3)?);
-    assert_eq!(rt; speak(&mut out, b"ab"), Put::Done);
-    assert_eq!(rt; speak(&mut out, b"c"), Put::Done);
-    let_go(&mut out);
-    assert_eq!(rt; out.handed(), Some(b"abc".as_slice()));
+    let looks = pieces(rt.alloc())?;
+    let mut link = SteadyLinkIn::new(b"hello".to_vec(rt.alloc())?, looks);
+    assert!(rt; hears_without_a_fault(&mut link));
     Ok(())
 }
 
 #[test]
+fn end_of_a_link_without_a_fault(rt: HostRuntime) -> Result<(), Fail> {
+    let mut link = SteadyLinkOut::new(Vec::with_capacity(rt.alloc(), 3)?);
+    assert!(rt; speak(&mut link, b"ab") == Put::Done);
+    assert!(rt; speak(&mut link, b"c") == Put::Done);
+    let_go(&mut link);
+    assert!(rt; link.handed() == Some(b"abc".as_slice()));
+    Ok(())
+}
+
+/// The first receive fails.
+fn failing_link(alloc: Global) -> Result<MemoryLinkIn, NoMemory> {
+    let failing = vec![in alloc; 0]?;
+    let looks = pieces(alloc)?;
+    Ok(MemoryLinkIn::new(b"hello".to_vec(alloc)?, looks, failing))
+}
+
+#[test]
 fn link_with_faults(rt: HostRuntime) -> Result<(), Fail> {
-    let alloc = rt.alloc();
-    let mut link = MemoryLinkIn::new(b"hello".to_vec(alloc)?, pieces(alloc)?, vec![in alloc; 0]?);
+    let mut link = failing_link(rt.alloc())?;
     let mut buf = [0; 4];
-    assert_eq!(rt; hear(&mut link, &mut buf), LinkGot::Failed);
-    assert_eq!(rt; hear(&mut link, &mut buf), LinkGot::Bytes(2));
-    let mut out = MemoryLinkOut::new(Vec::with_capacity(alloc, 4)?, vec![in alloc; 0]?);
-    assert_eq!(rt; speak(&mut out, b"abcd"), Put::Failed);
-    assert_eq!(rt; speak(&mut out, b"ef"), Put::Done);
-    let_go(&mut out);
-    assert_eq!(rt; out.handed(), Some(b"abef".as_slice()));
+    assert!(rt; hear(&mut link, &mut buf) == LinkGot::Failed);
+    assert!(rt; hear(&mut link, &mut buf) == LinkGot::Bytes(2));
+    Ok(())
+}
+
+#[test]
+fn end_of_a_link_with_faults(rt: HostRuntime) -> Result<(), Fail> {
+    let failing = vec![in rt.alloc(); 0]?;
+    let mut link = MemoryLinkOut::new(Vec::with_capacity(rt.alloc(), 4)?, failing);
+    assert!(rt; speak(&mut link, b"abcd") == Put::Failed);
+    assert!(rt; speak(&mut link, b"ef") == Put::Done);
+    let_go(&mut link);
+    assert!(rt; link.handed() == Some(b"abef".as_slice()));
     Ok(())
 }
 
@@ -212,19 +241,30 @@ where
 }
 
 #[test]
-fn dialers_over_memory(rt: HostRuntime) -> Result<(), Fail> {
-    let alloc = rt.alloc();
+fn dialer_without_a_fault(rt: HostRuntime) -> Result<(), Fail> {
+    let mut lines = VecDeque::new(rt.alloc());
+    lines.push_back(hello_line(rt.alloc())?)?;
+    let mut dialer = SteadyDialer::new(rt.alloc(), lines);
+    assert!(rt; first_look(&mut dialer) == Some(LinkGot::Bytes(5)));
+    assert!(rt; first_look(&mut dialer) == Some(LinkGot::Ended));
+    Ok(())
+}
+
+/// The first dial fails, and of the first link the first receive.
+fn failing_dialer(alloc: Global) -> Result<MemoryDialer, NoMemory> {
+    let failing = vec![in alloc; 0]?;
+    let line = Line::new(hello_line(alloc)?, vec![in alloc; 0]?, Vec::new(alloc));
     let mut lines = VecDeque::new(alloc);
-    lines.push_back(hello_line(alloc)?)?;
-    let mut steady = SteadyDialer::new(alloc, lines);
-    assert_eq!(rt; first_look(&mut steady), Some(LinkGot::Bytes(5)));
-    assert_eq!(rt; first_look(&mut steady), Some(LinkGot::Ended));
-    let mut lines = VecDeque::new(alloc);
-    lines.push_back(Line::new(hello_line(alloc)?, vec![in alloc; 0]?, Vec::new(alloc)))?;
-    let mut dialer = MemoryDialer::new(alloc, lines, vec![in alloc; 0]?);
-    assert_eq!(rt; first_look(&mut dialer), None);
-    assert_eq!(rt; first_look(&mut dialer), Some(LinkGot::Failed));
-    assert_eq!(rt; first_look(&mut dialer), Some(LinkGot::Ended));
+    lines.push_back(line)?;
+    Ok(MemoryDialer::new(alloc, lines, failing))
+}
+
+#[test]
+fn dialer_with_faults(rt: HostRuntime) -> Result<(), Fail> {
+    let mut dialer = failing_dialer(rt.alloc())?;
+    assert!(rt; first_look(&mut dialer) == None);
+    assert!(rt; first_look(&mut dialer) == Some(LinkGot::Failed));
+    assert!(rt; first_look(&mut dialer) == Some(LinkGot::Ended));
     Ok(())
 }
 
@@ -235,32 +275,63 @@ fn peer(net: &HostRuntime) -> io::Result<UdpSocket> {
     Ok(peer)
 }
 
-/// A datagram of 4096 octets, one of 5000, of which the end is lost, and then none for a tenth of a second.
+/// More than there is room for.
+const LARGE: &[u8] = &[7; 5000];
+
+/// Whether a datagram of 4096 octets comes, one of 5000, of which the end is lost, and then none for a tenth of a second.
+fn takes_large<R: rt::Clock>(
+    rt: &R,
+    peer: &UdpSocket,
+    port: u16,
+    socket: &mut UdpDatagrams,
+) -> io::Result<bool> {
+    let mut buf = [0; 4096];
+    let posted = post(socket, port, b"hi") == Put::Done;
+    let (_, place) = peer.recv_from(&mut buf)?;
+    peer.send_to(&LARGE[..4096], place)?;
+    peer.send_to(LARGE, place)?;
+    let full = Took::From {
+        address: LOOPBACK,
+        port,
+        length: 4096,
+    };
+    let both = look(socket, &mut buf) == full && look(socket, &mut buf) == full;
+    let before = Instant::now(rt)?;
+    let none = look(socket, &mut buf) == Took::Nothing;
+    let waited = before.elapsed(rt)? >= Duration::from_millis(50);
+    Ok(posted && both && none && waited)
+}
+
 #[test]
 fn datagrams_over_loopback(rt: HostRuntime) -> Result<(), Fail> {
     let peer = peer(&rt)?;
     let port = peer.local_addr()?.port();
     let mut socket = UdpDatagrams::bind(&rt, LOOPBACK, 0)?;
-    let mut buf = octets(rt.alloc(), 4096)?;
-    assert_eq!(rt; post(&mut socket, port, b"hi"), Put::Done);
-    let (_, place) = peer.recv_from(buf.as_mut_slice())?;
-    peer.send_to(octets(rt.alloc(), 4096)?.as_slice(), place)?;
-    peer.send_to(octets(rt.alloc(), 5000)?.as_slice(), place)?;
-    for _ in 0..2 {
-        let took = look(&mut socket, buf.as_mut_slice());
-        assert_eq!(rt;
-            took,
-            Took::From {
-                address: LOOPBACK,
-                port,
-                length: 4096
-            }
-        );
-    }
-    let before = Instant::now(&rt)?;
-    assert_eq!(rt; look(&mut socket, buf.as_mut_slice()), Took::Nothing);
-    assert!(rt; before.elapsed(&rt)? >= Duration::from_millis(50));
+    assert!(rt; takes_large(&rt, &peer, port, &mut socket).unwrap_or(false));
     Ok(())
+}
+
+/// The port that both send from.
+fn common_port(
+    peer: &UdpSocket,
+    port: u16,
+    socket: &mut UdpDatagrams,
+    twin: &mut UdpDatagrams,
+) -> io::Result<Option<u16>> {
+    let mut buf = [0; 8];
+    let first_sent = post(socket, port, b"a");
+    let (_, first) = peer.recv_from(&mut buf)?;
+    let second_sent = post(twin, port, b"b");
+    let (_, second) = peer.recv_from(&mut buf)?;
+    let same = (first_sent, second_sent, first.port()) == (Put::Done, Put::Done, second.port());
+    Ok(if same { Some(first.port()) } else { None })
+}
+
+fn is_in_use<R: Net>(net: &R, port: u16) -> bool {
+    match UdpDatagrams::bind(net, LOOPBACK, port) {
+        Ok(_) => false,
+        Err(error) => error.kind() == ErrorKind::AddrInUse,
+    }
 }
 
 /// A twin sends from the socket's port, and the port is in use for others.
@@ -269,19 +340,37 @@ fn twin_over_loopback(rt: HostRuntime) -> Result<(), Fail> {
     let peer = peer(&rt)?;
     let port = peer.local_addr()?.port();
     let mut socket = UdpDatagrams::bind(&rt, LOOPBACK, 0)?;
-    let mut other = twin(&mut socket).ok_or("no twin")?;
-    let mut buf = octets(rt.alloc(), 8)?;
-    assert_eq!(rt; post(&mut socket, port, b"a"), Put::Done);
-    let (_, first) = peer.recv_from(buf.as_mut_slice())?;
-    assert_eq!(rt; post(&mut other, port, b"b"), Put::Done);
-    let (_, second) = peer.recv_from(buf.as_mut_slice())?;
-    assert_eq!(rt; first.port(), second.port());
-    let in_use = UdpDatagrams::bind(&rt, LOOPBACK, first.port()).err();
-    assert_eq!(rt; in_use.map(|e| e.kind()), Some(ErrorKind::AddrInUse));
-    let mut closed = UdpDatagrams::closed();
-    assert_eq!(rt; look(&mut closed, buf.as_mut_slice()), Took::Failed);
-    assert_eq!(rt; post(&mut closed, port, b"c"), Put::Failed);
-    assert!(rt; twin(&mut closed).is_none());
+    let Some(mut other) = twin(&mut socket) else {
+        panic!(rt; "no twin")
+    };
+    let Ok(Some(common)) = common_port(&peer, port, &mut socket, &mut other) else {
+        panic!(rt; "no port of both")
+    };
+    assert!(rt; is_in_use(&rt, common));
+    Ok(())
+}
+
+#[test]
+fn socket_that_is_not_opened(rt: HostRuntime) {
+    let mut socket = UdpDatagrams::closed();
+    assert!(rt; look(&mut socket, &mut [0; 8]) == Took::Failed);
+    assert!(rt; post(&mut socket, 1812, b"c") == Put::Failed);
+    assert!(rt; twin(&mut socket).is_none());
+}
+
+/// Whether a rest that may last a minute ends within half of one.
+fn is_short<R: Wait + rt::Clock>(rt: &R, waker: &Waker) -> io::Result<bool> {
+    let before = Instant::now(rt)?;
+    waker.rest(rt, Duration::from_secs(60));
+    Ok(before.elapsed(rt)? < Duration::from_secs(30))
+}
+
+#[test]
+fn look_ends_a_rest(rt: HostRuntime) -> Result<(), Fail> {
+    let waker = Waker::new(rt.alloc())?;
+    let mut socket = UdpDatagrams::closed().waking(&waker);
+    look(&mut socket, &mut [0; 8]);
+    assert!(rt; is_short(&rt, &waker).unwrap_or(false));
     Ok(())
 }
 
@@ -289,21 +378,31 @@ fn listener(net: &HostRuntime) -> io::Result<TcpListener> {
     TcpListener::bind(net, (Ipv4Addr::from(LOOPBACK), 0))
 }
 
+/// Whether something goes over, and comes back after a while.
+fn goes_both_ways<I: LinkIn, O: LinkOut>(
+    link: &mut (I, O),
+    peer: &mut TcpStream,
+) -> io::Result<bool> {
+    let mut buf = [0; 8];
+    let asked = speak(&mut link.1, b"ask") == Put::Done && peer.read(&mut buf)? == 3;
+    let waited = hear(&mut link.0, &mut buf) == LinkGot::Nothing;
+    peer.write_all(b"answer")?;
+    Ok(asked && waited && hear(&mut link.0, &mut buf) == LinkGot::Bytes(6))
+}
+
 /// Both ways, nothing for a while, and a peer that closes.
 #[test]
 fn link_over_loopback(rt: HostRuntime) -> Result<(), Fail> {
     let listener = listener(&rt)?;
-    let mut dialer = TcpDialer::new(rt, LOOPBACK, listener.local_addr()?.port());
-    let (mut link_in, mut link_out) = dial(&mut dialer).ok_or("no link")?;
-    let (mut peer, _) = listener.accept()?;
-    let mut buf = octets(rt.alloc(), 8)?;
-    assert_eq!(rt; speak(&mut link_out, b"ask"), Put::Done);
-    assert_eq!(rt; peer.read(buf.as_mut_slice())?, 3);
-    assert_eq!(rt; hear(&mut link_in, buf.as_mut_slice()), LinkGot::Nothing);
-    peer.write_all(b"answer")?;
-    assert_eq!(rt; hear(&mut link_in, buf.as_mut_slice()), LinkGot::Bytes(6));
+    let port = listener.local_addr()?.port();
+    let waker = Waker::new(rt.alloc())?;
+    let mut dialer = TcpDialer::new(rt, LOOPBACK, port).woken_by(&waker);
+    let (Some(mut link), Ok((mut peer, _))) = (dial(&mut dialer), listener.accept()) else {
+        panic!(rt; "no link")
+    };
+    assert!(rt; goes_both_ways(&mut link, &mut peer).unwrap_or(false));
     drop(peer);
-    assert_eq!(rt; hear(&mut link_in, buf.as_mut_slice()), LinkGot::Ended);
+    assert!(rt; hear(&mut link.0, &mut [0; 8]) == LinkGot::Ended);
     Ok(())
 }
 
@@ -312,13 +411,13 @@ fn link_over_loopback(rt: HostRuntime) -> Result<(), Fail> {
 fn link_that_is_let_go(rt: HostRuntime) -> Result<(), Fail> {
     let listener = listener(&rt)?;
     let mut dialer = TcpDialer::new(rt, LOOPBACK, listener.local_addr()?.port());
-    let (mut link_in, mut link_out) = dial(&mut dialer).ok_or("no link")?;
-    let (mut peer, _) = listener.accept()?;
-    let mut buf = octets(rt.alloc(), 8)?;
-    let_go(&mut link_out);
-    assert_eq!(rt; peer.read(buf.as_mut_slice())?, 0);
-    assert_eq!(rt; hear(&mut link_in, buf.as_mut_slice()), LinkGot::Ended);
-    assert_eq!(rt; speak(&mut link_out, b"ask"), Put::Failed);
+    let (Some(mut link), Ok((mut peer, _))) = (dial(&mut dialer), listener.accept()) else {
+        panic!(rt; "no link")
+    };
+    let_go(&mut link.1);
+    assert!(rt; peer.read(&mut [0; 8]).unwrap_or(1) == 0);
+    assert!(rt; hear(&mut link.0, &mut [0; 8]) == LinkGot::Ended);
+    assert!(rt; speak(&mut link.1, b"ask") == Put::Failed);
     Ok(())
 }
 
@@ -329,9 +428,22 @@ fn refused_dial_over_loopback(rt: HostRuntime) -> Result<(), Fail> {
     let mut dialer = TcpDialer::new(rt, LOOPBACK, port);
     let before = Instant::now(&rt)?;
     assert!(rt; dial(&mut dialer).is_none());
-    assert_eq!(rt; dialer.refusal(), Some(ErrorKind::ConnectionRefused));
+    assert!(rt; dialer.refusal() == Some(ErrorKind::ConnectionRefused));
     assert!(rt; before.elapsed(&rt)? >= Duration::from_millis(100));
     Ok(())
+}
+
+/// What comes over the only connection that is accepted, and whether a second is.
+fn accepted<L: Dialer>(accepter: &mut L, peer: &mut TcpStream) -> io::Result<(LinkGot, bool)>
+where
+    L::In: Drop,
+    L::Out: Drop,
+{
+    peer.write_all(b"hi")?;
+    let Some(got) = first_look(accepter) else {
+        return Err(io::Error::from(ErrorKind::NotConnected));
+    };
+    Ok((got, dial(accepter).is_some()))
 }
 
 /// One connection is accepted, and no other. An address in use gives none.
@@ -341,13 +453,16 @@ fn accepted_over_loopback(rt: HostRuntime) -> Result<(), Fail> {
     let mut accepter = TcpAccepter::bind(rt, LOOPBACK, port)?;
     assert!(rt; TcpAccepter::bind(rt, LOOPBACK, port).is_err());
     let mut peer = TcpStream::connect(&rt, (Ipv4Addr::from(LOOPBACK), port))?;
-    let (mut link_in, _link_out) = dial(&mut accepter).ok_or("no link")?;
-    peer.write_all(b"hi")?;
-    let mut buf = octets(rt.alloc(), 8)?;
-    assert_eq!(rt; hear(&mut link_in, buf.as_mut_slice()), LinkGot::Bytes(2));
-    assert!(rt; dial(&mut accepter).is_none());
-    assert!(rt; dial(&mut TcpAccepter::closed(rt)).is_none());
+    let Ok(accepted) = accepted(&mut accepter, &mut peer) else {
+        panic!(rt; "none accepted")
+    };
+    assert!(rt; accepted == (LinkGot::Bytes(2), false));
     Ok(())
+}
+
+#[test]
+fn listener_that_is_not_opened(rt: HostRuntime) {
+    assert!(rt; dial(&mut TcpAccepter::closed(rt)).is_none());
 }
 
 /// Waits until all who meet are there, and gives one more than its number.

@@ -6,6 +6,7 @@ ghost use Rattle.wire_devices.specs.Forms.{told_of_counts};
 ghost use Rattle.wire_devices.specs.Sockets.{Fits};
 
 use crate::devices::{Datagrams, Took};
+use crate::waker::Waker;
 use std::io;
 use std::io::ErrorKind;
 use std::marker::Model;
@@ -20,6 +21,7 @@ pub(crate) const LOOK: u64 = 100;
 #[derive(Drop)]
 pub struct UdpDatagrams {
     socket: Option<UdpSocket>,
+    waker: Option<Waker>,
     faults: u64,
     row: u8,
 }
@@ -52,11 +54,20 @@ impl UdpDatagrams {
         UdpDatagrams::over(None)
     }
 
+    /// The same socket, which wakes this before each look: what the look before found may have been entered since.
+    pub fn waking(mut self, waker: &Waker) -> UdpDatagrams
+        ensures { result ≡ self }
+    {
+        self.waker = waker.another();
+        self
+    }
+
     fn over(socket: Option<UdpSocket>) -> UdpDatagrams
         ensures { result ≡ record { faults = 0; row = 0 } }
     {
         UdpDatagrams {
             socket,
+            waker: None,
             faults: 0,
             row: 0,
         }
@@ -67,6 +78,9 @@ impl Datagrams for UdpDatagrams {
     ghost told = { told_of_counts };
 
     fn receive(&mut self, buf: &mut [u8]) -> Took {
+        if let Some(waker) = &self.waker {
+            waker.wake();
+        }
         match look(&self.socket, buf) {
             Took::From {
                 address,
