@@ -19,9 +19,6 @@ use turnstile::{Pass, Turnstile};
 use wire_core::Octets;
 use wire_devices::{Clock, Datagrams, Took};
 
-#[cfg(test)]
-mod tests;
-
 /// No RADIUS packet is longer.
 const BUFFER: usize = 4096;
 

@@ -1,13 +1,13 @@
 //! Runs of the home server over memory, octet by octet.
 
-use crate::home;
+use crate::home_run::{HomeEnd, home};
 use agent_status::Status;
 use std::alloc::Global;
 use std::collections::VecDeque;
 use std::sync::Wait;
 use std::test::Fail;
 use wire_core::{MemorySink, MemorySource, NoMemory};
-use wire_devices::{Line, MemoryClock, MemoryDialer, SteadyLine};
+use wire_devices::{Line, MemoryClock, MemoryDialer, MemoryLinkIn, MemoryLinkOut, SteadyLine};
 
 /// The user of the first example of RFC 2865, section 7.1.
 const USERS: &[u8] = b"nemo 61726374616E67656e74";
@@ -81,25 +81,44 @@ struct Came {
     handed: Vec<u8>,
 }
 
-/// The two requests come over the link, and it has a second.
-fn run<R: Wait>(rt: &R, alloc: Global, play: &Play<'_>) -> Result<Came, NoMemory> {
+/// The two requests come over this link.
+fn line(alloc: Global, play: &Play<'_>) -> Result<Line, NoMemory> {
     let mut octets = Vec::from_slice(alloc, CAPABILITIES)?;
     octets.extend_from_slice(AA)?;
     let mut looks = VecDeque::new(alloc);
     for look in play.looks {
         looks.push_back(*look)?;
     }
-    let line = Line::new(
-        SteadyLine::new(octets, looks, Vec::with_capacity(alloc, 512)?),
-        Vec::from_slice(alloc, play.receives)?,
-        Vec::from_slice(alloc, play.sends)?,
-    );
+    let script = SteadyLine::new(octets, looks, Vec::with_capacity(alloc, 512)?);
+    let receives = Vec::from_slice(alloc, play.receives)?;
+    let sends = Vec::from_slice(alloc, play.sends)?;
+    Ok(Line::new(script, receives, sends))
+}
+
+fn dialer(alloc: Global, play: &Play<'_>) -> Result<MemoryDialer, NoMemory> {
     let mut lines = VecDeque::new(alloc);
-    lines.push_back(line)?;
-    let mut dialer = MemoryDialer::new(alloc, lines, Vec::from_slice(alloc, play.dials)?);
-    let mut clock = MemoryClock::new(Vec::from_slice(alloc, play.moments)?);
-    let mut input = MemorySource::new(alloc, play.users, 64, &[])?;
-    let mut output = MemorySink::new(alloc, 64, play.writes)?;
+    lines.push_back(line(alloc, play)?)?;
+    let dials = Vec::from_slice(alloc, play.dials)?;
+    Ok(MemoryDialer::new(alloc, lines, dials))
+}
+
+/// What the link was handed.
+fn handed(end: &HomeEnd<MemoryLinkIn, MemoryLinkOut>) -> &[u8] {
+    match &end.link {
+        Some(ends) => ends.1.handed().unwrap_or(b""),
+        None => b"",
+    }
+}
+
+/// What comes of a run over these, which has a second.
+fn came_of<R: Wait>(
+    rt: &R,
+    alloc: Global,
+    mut input: MemorySource,
+    mut output: MemorySink,
+    mut clock: MemoryClock,
+    mut dialer: MemoryDialer,
+) -> Result<Came, NoMemory> {
     let end = home(
         rt,
         alloc,
@@ -109,15 +128,21 @@ fn run<R: Wait>(rt: &R, alloc: Global, play: &Play<'_>) -> Result<Came, NoMemory
         &mut clock,
         &mut dialer,
     );
-    let handed = match &end.link {
-        Some(ends) => Vec::from_slice(alloc, ends.1.handed().unwrap_or(b""))?,
-        None => Vec::new(alloc),
-    };
+    let handed = Vec::from_slice(alloc, handed(&end))?;
+    let written = Vec::from_slice(alloc, output.as_slice())?;
     Ok(Came {
         status: end.status,
-        written: Vec::from_slice(alloc, output.as_slice())?,
+        written,
         handed,
     })
+}
+
+fn run<R: Wait>(rt: &R, alloc: Global, play: &Play<'_>) -> Result<Came, NoMemory> {
+    let input = MemorySource::new(alloc, play.users, 64, &[])?;
+    let output = MemorySink::new(alloc, 64, play.writes)?;
+    let clock = MemoryClock::new(Vec::from_slice(alloc, play.moments)?);
+    let dialer = dialer(alloc, play)?;
+    came_of(rt, alloc, input, output, clock, dialer)
 }
 
 /// No call fails, and time stands still.

@@ -1,7 +1,10 @@
 //! How runs over memory end, some of whose devices fail.
 
+ghost use Rattle.agent_config.specs.Config.{InLimits};
+
 use super::octets::{CAPABLE, INCAPABLE, base, settings};
 use crate::{Finish, World, serve};
+use agent_config::Config;
 use agent_status::Status;
 use peer_machine::LinkCause;
 use std::alloc::{AllocError, Global};
@@ -31,35 +34,45 @@ enum Fault {
     Start(usize),
 }
 
-/// How often each kind of call fails at first, and one start that does.
-#[derive(Clone, Copy)]
-struct Failing {
-    dials: usize,
-    auth: usize,
-    acct: usize,
-    acct_twins: usize,
-    start: Option<usize>,
+/// The numbers of the calls of each kind that fail.
+#[derive(Drop)]
+struct CallPlans {
+    dials: Vec<usize>,
+    auth: Vec<usize>,
+    acct: Vec<usize>,
+    acct_twins: Vec<usize>,
+    starts: Vec<usize>,
 }
 
-const NONE: Failing = Failing {
-    dials: 0,
-    auth: 0,
-    acct: 0,
-    acct_twins: 0,
-    start: None,
-};
-
-fn calls_of(fault: Fault) -> Failing {
-    let mut failing = NONE;
-    match fault {
-        Fault::Nothing => {}
-        Fault::Dials(count) => failing.dials = count,
-        Fault::Auth(count) => failing.auth = count,
-        Fault::Acct(count) => failing.acct = count,
-        Fault::AcctTwin => failing.acct_twins = 1,
-        Fault::Start(number) => failing.start = Some(number),
+/// The first so many calls fail too.
+fn fail_first(calls: &mut Vec<usize>, count: usize) -> Result<(), AllocError> {
+    for call in 0..count {
+        calls.push(call)?;
     }
-    failing
+    Ok(())
+}
+
+fn plans(alloc: Global, fault: Fault) -> Result<CallPlans, AllocError> {
+    let mut plans = CallPlans {
+        dials: Vec::new(alloc),
+        auth: Vec::new(alloc),
+        acct: Vec::new(alloc),
+        acct_twins: Vec::new(alloc),
+        starts: Vec::new(alloc),
+    };
+    let filled = match fault {
+        Fault::Nothing => Ok(()),
+        Fault::Dials(count) => fail_first(&mut plans.dials, count),
+        Fault::Auth(count) => fail_first(&mut plans.auth, count),
+        Fault::Acct(count) => fail_first(&mut plans.acct, count),
+        Fault::AcctTwin => fail_first(&mut plans.acct_twins, 1),
+        Fault::Start(number) => {
+            plans.starts.push(number)?;
+            Ok(())
+        }
+    };
+    filled?;
+    Ok(plans)
 }
 
 /// How such a run ends, and how many links its trail has, where there is one.
@@ -71,15 +84,6 @@ fn wanted(fault: Fault) -> (Status, Option<usize>) {
         Fault::Start(_) => (Status::NoThread, None),
         _ => (Status::Done, Some(1)),
     }
-}
-
-/// The numbers of the first so many calls.
-fn first(alloc: Global, count: usize) -> Result<Vec<usize>, AllocError> {
-    let mut calls = Vec::with_capacity(alloc, count)?;
-    for call in 0..count {
-        calls.push(call)?;
-    }
-    Ok(calls)
 }
 
 /// A clock that stands at 0 for so many readings, and reads this from then on.
@@ -112,26 +116,26 @@ fn end<R: Threads + Wait + Copy + Send + 'static>(
     rt: R,
     alloc: Global,
     random: RandomState,
+    config: Config,
     clock: MemoryClock,
     lines: VecDeque<Line>,
-    fault: Fault,
-) -> Result<(Status, Option<usize>), Fail> {
-    let failing = calls_of(fault);
-    let config = settings(alloc)?;
-    let auth = first(alloc, failing.auth)?;
-    let acct = first(alloc, failing.acct)?;
-    let twins = first(alloc, failing.acct_twins)?;
-    let dials = first(alloc, failing.dials)?;
-    let mut starts = Vec::new(alloc);
-    if let Some(start) = failing.start {
-        starts.push(start)?;
-    }
+    plans: CallPlans,
+) -> (Status, Option<usize>)
+    requires { InLimits config }
+{
+    let CallPlans {
+        dials,
+        auth,
+        acct,
+        acct_twins,
+        starts,
+    } = plans;
     let looks = VecDeque::new(alloc);
     let no_looks = VecDeque::new(alloc);
     let world = World {
         clock,
         auth: MemoryDatagrams::new(alloc, looks, auth, Vec::new(alloc), Vec::new(alloc)),
-        acct: MemoryDatagrams::new(alloc, no_looks, acct, Vec::new(alloc), twins),
+        acct: MemoryDatagrams::new(alloc, no_looks, acct, Vec::new(alloc), acct_twins),
         dialer: MemoryDialer::new(alloc, lines, dials),
         crew: ThreadCrew::new(alloc, rt, starts),
     };
@@ -148,22 +152,24 @@ fn end<R: Threads + Wait + Copy + Send + 'static>(
         dialer: _,
         crew: _,
     } = world;
-    let links = trail.map(|trail| trail.links.as_slice().len());
-    Ok((status, links))
+    (status, trail.map(|trail| trail.links.as_slice().len()))
 }
 
-/// Whether a run ends as it is to with this fault. Each look at the link costs a reading of the clock, so the link lasts longer
-/// than the run.
-fn ends_as_wanted<R: Threads + Wait + Copy + Send + 'static>(
+/// How a run ends in which these octets come on the only link, and this fails. Each look at the link costs a reading of the
+/// clock, so a link with so many quiet looks lasts longer than the run.
+fn ends<R: Threads + Wait + Copy + Send + 'static>(
     rt: R,
     alloc: Global,
     random: RandomState,
-    capable: &Octets,
+    octets: &Octets,
+    quiet: usize,
     fault: Fault,
-) -> Result<bool, Fail> {
-    let clock = clock(alloc, READINGS, UNTIL)?;
-    let lines = only(alloc, line(alloc, capable, READINGS)?)?;
-    Ok(end(rt, alloc, random, clock, lines, fault)? == wanted(fault))
+) -> Result<(Status, Option<usize>), Fail> {
+    let clock = clock(alloc, quiet, if quiet == 0 { 0 } else { UNTIL })?;
+    let plans = plans(alloc, fault)?;
+    let lines = only(alloc, line(alloc, octets, quiet)?)?;
+    let config = settings(alloc)?;
+    Ok(end(rt, alloc, random, config, clock, lines, plans))
 }
 
 #[test]
@@ -182,7 +188,7 @@ fn what_fails_says_how_a_run_ends(rt: HostRuntime) -> Result<(), Fail> {
         Fault::Start(1),
         Fault::Start(2),
     ] {
-        assert!(rt; ends_as_wanted(rt, alloc, random, &capable, fault)?);
+        assert!(rt; ends(rt, alloc, random, &capable, READINGS, fault)? == wanted(fault));
     }
     Ok(())
 }
@@ -191,34 +197,30 @@ fn what_fails_says_how_a_run_ends(rt: HostRuntime) -> Result<(), Fail> {
 #[test]
 fn links_that_end_at_once_wear_a_run_out(rt: HostRuntime) -> Result<(), Fail> {
     let alloc = rt.alloc();
-    let worn = Status::LinkEnded {
-        cause: LinkCause::Ended,
-    };
-    let clock = clock(alloc, 0, 0)?;
     let random = RandomState::new(&rt)?;
+    let clock = clock(alloc, 0, 0)?;
+    let plans = plans(alloc, Fault::Nothing)?;
+    let config = settings(alloc)?;
     let end = end(
         rt,
         alloc,
         random,
+        config,
         clock,
         VecDeque::new(alloc),
-        Fault::Nothing,
-    )?;
-    assert_eq!(rt; end, (worn, Some(256)));
+        plans,
+    );
+    let cause = LinkCause::Ended;
+    assert!(rt; end == (Status::LinkEnded { cause }, Some(256)));
     Ok(())
 }
 
+/// The clock stands still here too.
 #[test]
 fn home_server_refuses_the_link(rt: HostRuntime) -> Result<(), Fail> {
-    let alloc = rt.alloc();
-    let incapable = base(alloc, &INCAPABLE, 0)?;
-    let lines = only(alloc, line(alloc, &incapable, 0)?)?;
-    let clock = clock(alloc, 0, 0)?;
-    let refused = Status::PeerRefused { result: 5010 };
+    let incapable = base(rt.alloc(), &INCAPABLE, 0)?;
     let random = RandomState::new(&rt)?;
-    assert_eq!(rt;
-        end(rt, alloc, random, clock, lines, Fault::Nothing)?,
-        (refused, Some(1))
-    );
+    let end = ends(rt, rt.alloc(), random, &incapable, 0, Fault::Nothing)?;
+    assert!(rt; end == (Status::PeerRefused { result: 5010 }, Some(1)));
     Ok(())
 }

@@ -180,7 +180,7 @@ fn nas(alloc: Global) -> Result<Client, NoMemory> {
 }
 
 /// Settings with one client.
-pub(crate) fn settings(alloc: Global) -> Result<Config, NoMemory>
+pub(super) fn settings(alloc: Global) -> Result<Config, NoMemory>
     ensures { IfOk result InLimits }
 {
     agent_config::client_keeps_limits();

@@ -1,9 +1,9 @@
 //! Runs of the server over devices that wait for one another.
 
-use super::octets::{datagram, settings};
+use super::octets::{base, datagram, message, settings};
 use super::waiting::{
     Find, Finds, Look, Post, Script, UNTIL, WaitingClock, WaitingDialer, WaitingIn, WaitingOut,
-    WaitingSocket,
+    WaitingSocket, Word,
 };
 use crate::{Finish, Trail, World, serve};
 use agent_status::Status;
@@ -14,8 +14,53 @@ use std::sync::atomic::{AtomicU64, Ordering};
 use std::sync::{Arc, Wait};
 use std::test::Fail;
 use std::thread::Threads;
-use wire_core::Octets;
 use wire_devices::ThreadCrew;
+
+/// What comes on a link: the first message of the base protocol where so many requests were sent before, a message with these
+/// two numbers, its end, or a fault.
+#[derive(Clone, Copy)]
+pub(super) enum Says {
+    Base(&'static [&'static str; 2], u8),
+    Message(&'static [&'static str; 2], u32, u8),
+    End,
+    Fault,
+}
+
+/// What comes once the first bits are raised, and what the look after it raises.
+#[derive(Clone, Copy)]
+pub(super) struct Hears {
+    pub after: u64,
+    pub says: Says,
+    pub raises: u64,
+}
+
+/// What comes at once, or once these bits are raised, and raises nothing.
+pub(super) fn heard(says: Says, after: u64) -> Hears {
+    Hears {
+        after,
+        says,
+        raises: 0,
+    }
+}
+
+fn finds(alloc: Global, says: Says) -> Result<Finds, Fail> {
+    match says {
+        Says::Base(parts, before) => Ok(Finds::Octets(base(alloc, parts, before)?)),
+        Says::Message(parts, hop, number) => {
+            Ok(Finds::Octets(message(alloc, parts, hop, number)?))
+        }
+        Says::End => Ok(Finds::End),
+        Says::Fault => Ok(Finds::Fault),
+    }
+}
+
+fn look(alloc: Global, hears: Hears) -> Result<Look, Fail> {
+    Ok(Look {
+        after: hears.after,
+        finds: finds(alloc, hears.says)?,
+        raises: hears.raises,
+    })
+}
 
 /// What the devices of a run do. The run lasts until the last bits are raised.
 #[derive(Drop)]
@@ -43,12 +88,14 @@ impl Play {
     }
 
     /// One link more, whose looks find these in turn, and whose first sends raise these bits.
-    pub(super) fn link(&mut self, looks: Vec<Look>, raises: Vec<u64>) -> Result<(), Fail> {
-        self.scripts.push_back(Script {
-            looks,
-            raises,
-            failing_sends: 0,
-        })?;
+    pub(super) fn link(&mut self, hears: &[Hears], raises: &[u64]) -> Result<(), Fail> {
+        let alloc = self.host.alloc();
+        let mut script = Script::quiet(alloc);
+        script.raises.extend_from_slice(raises)?;
+        for hear in hears {
+            script.looks.push(look(alloc, *hear)?)?;
+        }
+        self.scripts.push_back(script)?;
         Ok(())
     }
 
@@ -80,24 +127,6 @@ impl Post {
     }
 }
 
-/// A look that finds these octets.
-pub(super) fn heard(octets: Octets, after: u64, raises: u64) -> Look {
-    Look {
-        after,
-        finds: Finds::Octets(octets),
-        raises,
-    }
-}
-
-/// A link that ends once these bits are raised.
-pub(super) fn end_after(after: u64) -> Look {
-    Look {
-        after,
-        finds: Finds::End,
-        raises: 0,
-    }
-}
-
 /// What is left of a run. `raised` are the bits that its devices raised.
 #[derive(Drop)]
 pub(super) struct Ran {
@@ -106,6 +135,15 @@ pub(super) struct Ran {
     pub auth: WaitingSocket,
     pub acct: WaitingSocket,
     pub trail: Trail<WaitingClock, WaitingSocket, WaitingIn, WaitingOut>,
+}
+
+/// A share of the word for the clock, for each socket and for the dialer.
+fn shares(word: &Word) -> Result<(Word, Word, Word, Word), Fail> {
+    let clock = Arc::try_clone(word)?;
+    let auth = Arc::try_clone(word)?;
+    let acct = Arc::try_clone(word)?;
+    let dialer = Arc::try_clone(word)?;
+    Ok((clock, auth, acct, dialer))
 }
 
 /// Runs the server over these devices.
@@ -123,18 +161,14 @@ pub(super) fn run<R: Threads + Wait + Copy + Send + 'static>(
     } = play;
     let alloc = host.alloc();
     let word = Arc::new(alloc, AtomicU64::new(0))?;
+    let (for_clock, for_auth, for_acct, for_dialer) = shares(&word)?;
     let config = settings(alloc)?;
-    let clock = WaitingClock::new(Arc::try_clone(&word)?, last);
-    let auth = WaitingSocket::new(host, Arc::try_clone(&word)?, auth);
-    let acct = WaitingSocket::new(host, Arc::try_clone(&word)?, acct);
-    let dialer = WaitingDialer::new(host, Arc::try_clone(&word)?, scripts);
-    let crew = ThreadCrew::new(alloc, rt, Vec::new(alloc));
     let world = World {
-        clock,
-        auth,
-        acct,
-        dialer,
-        crew,
+        clock: WaitingClock::new(for_clock, last),
+        auth: WaitingSocket::new(host, for_auth, auth),
+        acct: WaitingSocket::new(host, for_acct, acct),
+        dialer: WaitingDialer::new(host, for_dialer, scripts),
+        crew: ThreadCrew::new(alloc, rt, Vec::new(alloc)),
     };
     let Finish {
         status,

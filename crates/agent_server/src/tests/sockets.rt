@@ -1,10 +1,9 @@
 //! The replies of both sockets, and what becomes of a socket that fails.
 
-use super::octets::{
-    ACCEPTED, BEGUN, CAPABLE, LOGIN, START, STARTED, SUCCESS, base, datagram, message,
-};
-use super::runs::{Play, heard, run};
+use super::octets::{ACCEPTED, BEGUN, CAPABLE, LOGIN, START, STARTED, SUCCESS, datagram};
+use super::runs::{Hears, Play, Ran, Says, heard, run};
 use agent_status::Status;
+use std::alloc::Global;
 use std::test::Fail;
 
 /// What happens in these runs: the link serves, a request was sent on it, a second one, the socket for logins handed out a
@@ -23,71 +22,86 @@ const REPEATED: u64 = 1 << 5;
 
 const ACCT_REPEATED: u64 = 1 << 6;
 
+/// The home server's capabilities, at once. The link serves at the next look.
+const SERVES: Hears = Hears {
+    after: 0,
+    says: Says::Base(&CAPABLE, 0),
+    raises: SERVING,
+};
+
 /// A login and the beginning of a session, each of which comes again once it was replied to. The home server answers the
 /// second one first.
-fn both_ports(rt: HostRuntime) -> Result<Play, Fail> {
-    let alloc = rt.alloc();
-    let mut play = Play::new(rt, REPEATED | ACCT_REPEATED)?;
+fn ask_both(alloc: Global, play: &mut Play) -> Result<(), Fail> {
     play.auth.comes(alloc, LOGIN, SERVING)?;
     play.auth.comes(alloc, LOGIN, REPLIED)?;
-    play.auth.raises = vec![in alloc; REPEATED]?;
-    play.auth.twin_raises = vec![in alloc; REPLIED]?;
+    play.auth.raises.push(REPEATED)?;
+    play.auth.twin_raises.push(REPLIED)?;
     play.acct.comes(alloc, START, ASKED)?;
     play.acct.comes(alloc, START, ACCT_REPLIED)?;
-    play.acct.raises = vec![in alloc; ACCT_REPEATED]?;
-    play.acct.twin_raises = vec![in alloc; ACCT_REPLIED]?;
+    play.acct.raises.push(ACCT_REPEATED)?;
+    play.acct.twin_raises.push(ACCT_REPLIED)?;
     play.link(
-        vec![in alloc;
-            heard(base(alloc, &CAPABLE, 0)?, 0, SERVING),
-            heard(message(alloc, &BEGUN, 1, 2)?, ASKED_TWICE, 0),
-            heard(message(alloc, &ACCEPTED, 0, 1)?, 0, 0),
-        ]?,
-        vec![in alloc; 0, ASKED, ASKED_TWICE]?,
-    )?;
-    Ok(play)
+        &[
+            SERVES,
+            heard(Says::Message(&BEGUN, 1, 2), ASKED_TWICE),
+            heard(Says::Message(&ACCEPTED, 0, 1), 0),
+        ],
+        &[0, ASKED, ASKED_TWICE],
+    )
 }
 
 /// The answers go out by the twins, and the kept replies by the sockets themselves.
-#[test]
-fn each_port_has_its_replies(rt: HostRuntime) -> Result<(), Fail> {
-    let alloc = rt.alloc();
-    let ran = run(rt, both_ports(rt)?)?;
-    assert!(rt; ran.status == Status::Done);
+fn is_replied_by_port(alloc: Global, ran: &Ran) -> Result<bool, Fail> {
     let success = [datagram(alloc, SUCCESS)?];
     let started = [datagram(alloc, STARTED)?];
-    assert!(rt; ran.trail.auth_twin.handed() == success.as_slice());
-    assert!(rt; ran.trail.acct_twin.handed() == started.as_slice());
-    assert!(rt; ran.auth.handed() == success.as_slice());
-    assert!(rt; ran.acct.handed() == started.as_slice());
+    let by_twins = ran.trail.auth_twin.handed() == success.as_slice()
+        && ran.trail.acct_twin.handed() == started.as_slice();
+    Ok(
+        by_twins
+            && ran.auth.handed() == success.as_slice()
+            && ran.acct.handed() == started.as_slice(),
+    )
+}
+
+#[test]
+fn each_port_has_its_replies(rt: HostRuntime) -> Result<(), Fail> {
+    let mut play = Play::new(rt, REPEATED | ACCT_REPEATED)?;
+    ask_both(rt.alloc(), &mut play)?;
+    let ran = run(rt, play)?;
+    assert!(rt; ran.status == Status::Done);
+    let by_port = is_replied_by_port(rt.alloc(), &ran);
+    drop(ran);
+    assert!(rt; by_port?);
     Ok(())
 }
 
 /// One link, on which a login is asked and answered. It comes again once its reply was handed out.
-fn answered(rt: HostRuntime, last: u64) -> Result<Play, Fail> {
-    let alloc = rt.alloc();
-    let mut play = Play::new(rt, last)?;
+fn ask(alloc: Global, play: &mut Play) -> Result<(), Fail> {
     play.auth.comes(alloc, LOGIN, SERVING)?;
     play.auth.comes(alloc, LOGIN, REPLIED)?;
-    play.auth.raises = vec![in alloc; REPEATED]?;
-    play.auth.twin_raises = vec![in alloc; REPLIED]?;
+    play.auth.raises.push(REPEATED)?;
+    play.auth.twin_raises.push(REPLIED)?;
     play.link(
-        vec![in alloc;
-            heard(base(alloc, &CAPABLE, 0)?, 0, SERVING),
-            heard(message(alloc, &ACCEPTED, 0, 1)?, ASKED, 0),
-        ]?,
-        vec![in alloc; 0, ASKED]?,
-    )?;
-    Ok(play)
+        &[SERVES, heard(Says::Message(&ACCEPTED, 0, 1), ASKED)],
+        &[0, ASKED],
+    )
+}
+
+fn is_success(alloc: Global, ran: &Ran) -> Result<bool, Fail> {
+    Ok(ran.auth.handed() == [datagram(alloc, SUCCESS)?].as_slice())
 }
 
 #[test]
 fn reply_that_could_not_be_sent_is_kept(rt: HostRuntime) -> Result<(), Fail> {
-    let mut play = answered(rt, REPEATED)?;
+    let mut play = Play::new(rt, REPEATED)?;
+    ask(rt.alloc(), &mut play)?;
     play.auth.failing_sends = 1;
     let ran = run(rt, play)?;
     assert!(rt; ran.status == Status::Done);
     assert!(rt; ran.trail.auth_twin.faults() == 1);
-    assert!(rt; ran.auth.handed() == [datagram(rt.alloc(), SUCCESS)?].as_slice());
+    let success = is_success(rt.alloc(), &ran);
+    drop(ran);
+    assert!(rt; success?);
     Ok(())
 }
 
@@ -106,7 +120,8 @@ fn socket_that_fails_ends_the_run(rt: HostRuntime) -> Result<(), Fail> {
 /// look is in vain unless both readers run beside each other.
 #[test]
 fn readers_run_beside_each_other(rt: HostRuntime) -> Result<(), Fail> {
-    let mut play = answered(rt, REPEATED)?;
+    let mut play = Play::new(rt, REPEATED)?;
+    ask(rt.alloc(), &mut play)?;
     play.auth.insist();
     let ran = run(rt, play)?;
     assert!(rt; ran.raised == SERVING | ASKED | REPLIED | REPEATED);
