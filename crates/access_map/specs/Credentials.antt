@@ -21,14 +21,14 @@ abbrev pub no_credentials : Credentials
 no_credentials = record { eap = false; passwords = 0; bad = false }
 
 -- with one attribute more
-abbrev pub noted : Credentials → AttributeParts → Credentials
-noted before a = record {
+abbrev pub credentials_with : Credentials → AttributeParts → Credentials
+credentials_with before a = record {
   eap = before.eap || is_eap a;
   passwords = before.passwords + (if is_password a then 1 else 0);
   bad = before.bad || is_bad_password a;
 }
 
 -- what speaks against the passwords
-abbrev pub password_reason : Credentials → Option Reason
-password_reason c =
+abbrev pub credentials_reason : Credentials → Option Reason
+credentials_reason c =
     option_or (reason_if (nat_lt 1 c.passwords || (nat_lt 0 c.passwords && c.eap)) BothPasswords) (reason_if c.bad BadPassword)

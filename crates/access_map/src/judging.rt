@@ -54,9 +54,9 @@ fn is_bad_password(attribute: &Attribute<'_>) -> bool
 }
 
 /// What is there with one attribute more.
-fn noted(before: Credentials, attribute: &Attribute<'_>) -> Credentials
+fn credentials_with(before: Credentials, attribute: &Attribute<'_>) -> Credentials
     requires { before.passwords < 4096 }
-    ensures { result ≡ found.noted before (attribute_view attribute.now) }
+    ensures { result ≡ found.credentials_with before (attribute_view attribute.now) }
 {
     Credentials {
         eap: before.eap || is_eap(attribute),
@@ -77,7 +77,7 @@ fn read(client: &Client, address: u32, packet: &Packet<'_>) -> Reading
     };
     for attribute in packet.attributes() {
         faults = faults.note(client, address, Direction::Access, &attribute);
-        credentials = noted(credentials, &attribute);
+        credentials = credentials_with(credentials, &attribute);
     }
     Reading {
         faults,
@@ -97,8 +97,8 @@ fn seal_reason(client: &Client, packet: &Packet<'_>, eap: bool) -> Option<Reason
 }
 
 /// What speaks against the passwords.
-fn password_reason(credentials: &Credentials) -> Option<Reason>
-    ensures { result ≡ found.password_reason credentials.now }
+fn credentials_reason(credentials: &Credentials) -> Option<Reason>
+    ensures { result ≡ found.credentials_reason credentials.now }
 {
     if credentials.passwords > 1 || credentials.passwords > 0 && credentials.eap {
         Some(Reason::BothPasswords)
@@ -122,7 +122,7 @@ fn reason(client: &Client, packet: &Packet<'_>, reading: &Reading) -> Option<Rea
     if reading.faults.foreign {
         return Some(Reason::NasAddress);
     }
-    if let Some(reason) = password_reason(&reading.credentials) {
+    if let Some(reason) = credentials_reason(&reading.credentials) {
         return Some(reason);
     }
     reading.faults.reason()

@@ -3,7 +3,7 @@ use Rattle.std.proofs.Common.{◌≡◌, Bool, true, false, cond, List, [], ◌�
 use Rattle.std.specs.Prelude.{filter}
 use Rattle.radius_packet.specs.Packet.{AttributeParts}
 use Rattle.accounting_map.specs.Verdict.{is_status, lone_number, status}
-use Rattle.accounting_map.specs.Statuses.{further, noted, status_of}
+use Rattle.accounting_map.specs.Statuses.{further, statuses_with, status_of}
 use Rattle.accounting_map.specs.declared.statuses.Statuses.{Statuses}
 use Rattle.accounting_map.specs.declared.statuses.Statuses.TheVariants.{Missing, Lone, Many}
 
@@ -11,10 +11,10 @@ own-step : (found : Statuses) (a : AttributeParts) (rest : List AttributeParts) 
 own-step found a rest true = refl
 own-step found a rest false = refl
 
-statuses-fold : (found : Statuses) (attributes : List AttributeParts) → fold noted found attributes ≡ fold further found (filter is_status attributes)
+statuses-fold : (found : Statuses) (attributes : List AttributeParts) → fold statuses_with found attributes ≡ fold further found (filter is_status attributes)
 statuses-fold found [] = refl
 statuses-fold found (a ∷ attributes) =
-    statuses-fold (noted found a) attributes ∙ own-step found a (filter is_status attributes) (is_status a)
+    statuses-fold (statuses_with found a) attributes ∙ own-step found a (filter is_status attributes) (is_status a)
 
 many_stay : (statuses : List AttributeParts) → fold further Many statuses ≡ Many
 many_stay [] = refl
@@ -26,5 +26,5 @@ lone (a ∷ []) = refl
 lone (a ∷ b ∷ rest) = ap status_of (many_stay rest)
 
 -- what the loop comes to
-pub status_of-fold : (attributes : List AttributeParts) → status_of (fold noted Missing attributes) ≡ status attributes
+pub status_of-fold : (attributes : List AttributeParts) → status_of (fold statuses_with Missing attributes) ≡ status attributes
 status_of-fold attributes = ap status_of (statuses-fold Missing attributes) ∙ lone (filter is_status attributes)

@@ -12,8 +12,8 @@ further (Lone number) a = Many
 further Many a = Many
 
 -- with one attribute more
-abbrev pub noted : Statuses → AttributeParts → Statuses
-noted found a = if is_status a then further found a else found
+abbrev pub statuses_with : Statuses → AttributeParts → Statuses
+statuses_with found a = if is_status a then further found a else found
 
 -- the number in the only one, else 0
 abbrev pub status_of : Statuses → ℕ

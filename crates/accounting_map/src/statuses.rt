@@ -30,7 +30,7 @@ pub(crate) enum Statuses {
 impl Statuses {
     /// What is found with one attribute more.
     pub fn note(self, attribute: &Attribute<'_>) -> Statuses
-        ensures { result ≡ statuses.noted self (attribute_view attribute.now) }
+        ensures { result ≡ statuses.statuses_with self (attribute_view attribute.now) }
     {
         if attribute.code != ACCT_STATUS_TYPE {
             return self;

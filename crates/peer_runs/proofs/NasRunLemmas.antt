@@ -12,7 +12,7 @@ use Rattle.wire_devices.specs.Sockets.{Socket}
 use Rattle.wire_devices.specs.Telling.{Adds}
 use Rattle.wire_devices.proofs.TellingLaws.{Adds-append, Adds-none}
 use Rattle.transcript.specs.Reading.{Bad}
-use Rattle.transcript.specs.Streams.{Cutting, IsUnended, TakesLine, TakesNone, most_octets, rest_of}
+use Rattle.transcript.specs.Streams.{Cutting, IsUnended, TakesRawLine, TakesNone, most_octets, rest_of}
 use Rattle.transcript.specs.Words.{lines_of}
 use Rattle.transcript.specs.declared.raw_lines.RawFault.{RawFault}
 use Rattle.transcript.specs.declared.raw_lines.RawFault.TheVariants as raw
@@ -99,7 +99,7 @@ took-one clients client count lines line took is = record {
 
 module _ {place : Place} {patience count : ℕ} {input left output output' clock clock' : Option (List ℕ)} {old : Cutting} {s t : Socket}
     (r : RunsOn place patience count input old left output output' clock clock' s t) where
-  pub runs-line : (count' : ℕ) (new : Cutting) (then output'' clock'' : Option (List ℕ)) (u : Socket) → TakesLine Line (rest_of old left) (rest_of new then) old new → IsUnended new.line
+  pub runs-line : (count' : ℕ) (new : Cutting) (then output'' clock'' : Option (List ℕ)) (u : Socket) → TakesRawLine Line (rest_of old left) (rest_of new then) old new → IsUnended new.line
       → AsksLine (Ok tt) place patience (one_more count) new.line output' output'' clock' clock'' t u → count' ≡ one_more count
       → RunsOn place patience count' input new then output output'' clock clock'' s u
   runs-line count' new then output'' clock'' u takes unended (client, wrote, asks) counts =
@@ -125,7 +125,7 @@ module _ {place : Place} {patience count : ℕ} {input left output output' clock
       let (others, all) = lines-so-far (nas_task patience r.clients) (Took r.clients count) (is-task patience r.clients) X old left g in
       subst (λ cs. AreFor cs (lines_of X)) (sym (append-nil r.clients)) (subst (AreFor r.clients) (sym all) (are-for r.clients g.lines others g.taken.all))
 
-  next-taken : (next : RawLine) (new : Cutting) (then : Option (List ℕ)) → TakesLine next (rest_of old left) (rest_of new then) old new → (next ≡ End → ⊥) → IsUnended new.line
+  next-taken : (next : RawLine) (new : Cutting) (then : Option (List ℕ)) → TakesRawLine next (rest_of old left) (rest_of new then) old new → (next ≡ End → ⊥) → IsUnended new.line
       → (X : List ℕ) (is : input ≡ Some X) → (others : List (List ℕ)) × (lines_of X ≡ (known X is).lines ++ new.line ∷ others)
   next-taken Line new then takes some unended X is =
       line-taken (nas_task patience r.clients) (Took r.clients count) (is-task patience r.clients) X old new left then (known X is) takes unended
@@ -133,7 +133,7 @@ module _ {place : Place} {patience count : ℕ} {input left output output' clock
       ([], last-taken (nas_task patience r.clients) (Took r.clients count) (is-task patience r.clients) X old new left then (known X is) takes unended)
   next-taken End new then takes some unended X is = absurd (some refl)
 
-  with-next : (next : RawLine) (new : Cutting) (then : Option (List ℕ)) → TakesLine next (rest_of old left) (rest_of new then) old new → (next ≡ End → ⊥) → IsUnended new.line
+  with-next : (next : RawLine) (new : Cutting) (then : Option (List ℕ)) → TakesRawLine next (rest_of old left) (rest_of new then) old new → (next ≡ End → ⊥) → IsUnended new.line
       → (client : Asked) → packet_in new.line ≡ Ok client.packet → (X : List ℕ) → input ≡ Some X → AreFor (r.clients ++ client ∷ []) (lines_of X)
   with-next next new then takes some unended client read X is =
       let (others, all) = next-taken next new then takes some unended X is in
@@ -142,7 +142,7 @@ module _ {place : Place} {patience count : ℕ} {input left output output' clock
 
 -- a line that has no text
 not-done : {took : List (List ℕ) → Type 0} {before now : Option (List ℕ)} (patience : ℕ) (clients : List Asked) (next : RawLine) (status : Status) (X : List ℕ) (old new : Cutting) (left then after : Option (List ℕ))
-    → (g : Goes (nas_task patience clients) took (Some X) old left before now) → TakesLine next (rest_of old left) (rest_of new then) old new → (next ≡ End → ⊥) → IsUnended new.line
+    → (g : Goes (nas_task patience clients) took (Some X) old left before now) → TakesRawLine next (rest_of old left) (rest_of new then) old new → (next ≡ End → ⊥) → IsUnended new.line
     → new.held.passed + length new.held.octets ≤ most_octets → WorksNot (nas_task patience clients) status g.lines new.line now after
     → EndsBy (nas_task patience clients) status X then before after
 not-done {took} {before} {now} patience clients Line status X old new left then after g takes some unended within works =
@@ -182,7 +182,7 @@ module _ {place : Place} {patience count : ℕ} {input left output output' clock
     ends = ends;
   }
 
-  pub ends-end : (new : Cutting) (then : Option (List ℕ)) → TakesLine End (rest_of old left) (rest_of new then) old new
+  pub ends-end : (new : Cutting) (then : Option (List ℕ)) → TakesRawLine End (rest_of old left) (rest_of new then) old new
       → new.held.passed + length new.held.octets ≤ most_octets → NasEnds Done place patience input then output output' clock clock' s t
   ends-end new then takes within =
       ends-so-far Done then tt (λ X is.
@@ -215,7 +215,7 @@ module _ {place : Place} {patience count : ℕ} {input left output output' clock
 
   -- ---- after the last line
 
-  pub ends-last-line : (new : Cutting) (then output'' clock'' : Option (List ℕ)) (u : Socket) → TakesLine LastLine (rest_of old left) (rest_of new then) old new → IsUnended new.line
+  pub ends-last-line : (new : Cutting) (then output'' clock'' : Option (List ℕ)) (u : Socket) → TakesRawLine LastLine (rest_of old left) (rest_of new then) old new → IsUnended new.line
       → new.held.passed + length new.held.octets ≤ most_octets → AsksLine (Ok tt) place patience (one_more count) new.line output' output'' clock' clock'' t u
       → NasEnds Done place patience input then output output'' clock clock'' s u
   ends-last-line new then output'' clock'' u takes unended within (client, wrote, asks) =
@@ -236,7 +236,7 @@ module _ {place : Place} {patience count : ℕ} {input left output output' clock
 
   -- ---- where a line wasn't done
 
-  module _ (next : RawLine) (new : Cutting) (then clock'' : Option (List ℕ)) (u : Socket) (takes : TakesLine next (rest_of old left) (rest_of new then) old new)
+  module _ (next : RawLine) (new : Cutting) (then clock'' : Option (List ℕ)) (u : Socket) (takes : TakesRawLine next (rest_of old left) (rest_of new then) old new)
       (some : next ≡ End → ⊥) (unended : IsUnended new.line) (within : new.held.passed + length new.held.octets ≤ most_octets) where
     -- no client asked for it
     ends-unasked : (status : Status) → IsBrokenOff status patience None → Asks place patience [] clock' clock'' t u

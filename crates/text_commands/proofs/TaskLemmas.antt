@@ -12,7 +12,7 @@ use Rattle.wire_core.specs.Sink.{Appends, AppendsPrefix}
 use Rattle.wire_core.proofs.SinkLaws.{Appends-append, Appends-none, AppendsPrefix-append, AppendsPrefix-front, AppendsPrefix-none, AppendsPrefix-whole}
 use Rattle.agent_core.proofs.Lists.{AllByRecursion-push}
 use Rattle.transcript.specs.Reading.{Bad}
-use Rattle.transcript.specs.Streams.{Cutting, IsUnended, TakesLine, TakesNone, most_octets, rest_of}
+use Rattle.transcript.specs.Streams.{Cutting, IsUnended, TakesRawLine, TakesNone, most_octets, rest_of}
 use Rattle.transcript.specs.Words.{lines_of}
 use Rattle.transcript.specs.declared.raw_lines.RawFault.{RawFault}
 use Rattle.transcript.specs.declared.raw_lines.RawFault.TheVariants as raw
@@ -174,7 +174,7 @@ module _ (task : Task) (took : List (List ℕ) → Type 0) (law : IsTask task) w
   }
 
   pub goes-on : {input before now : Option (List ℕ)} {took' : List (List ℕ) → Type 0} (old new : Cutting) (left then : Option (List ℕ)) → (g : Goes task took input old left before now)
-      → TakesLine Line (rest_of old left) (rest_of new then) old new → IsUnended new.line
+      → TakesRawLine Line (rest_of old left) (rest_of new then) old new → IsUnended new.line
       → took' (g.lines ++ new.line ∷ []) → (text : List ℕ) → Adds task g.lines new.line text → (after : Option (List ℕ)) → Appends now after text
       → Goes task took' input new then before after
   goes-on {input = input} {before = before} old new left then g takes unended taken text adds after wrote = record {
@@ -216,7 +216,7 @@ module _ (task : Task) (took : List (List ℕ) → Type 0) (law : IsTask task) w
 
   -- a line that was taken is the next one
   pub line-taken : {before now : Option (List ℕ)} (X : List ℕ) (old new : Cutting) (left then : Option (List ℕ)) → (g : Goes task took (Some X) old left before now)
-      → TakesLine Line (rest_of old left) (rest_of new then) old new → IsUnended new.line
+      → TakesRawLine Line (rest_of old left) (rest_of new then) old new → IsUnended new.line
       → (others : List (List ℕ)) × (lines_of X ≡ g.lines ++ new.line ∷ others)
   line-taken X old new left then g takes unended =
       let (ys, told, cut) = told-by X old left g in
@@ -232,7 +232,7 @@ module _ (task : Task) (took : List (List ℕ) → Type 0) (law : IsTask task) w
 
   -- one that ends with the input is the last one
   pub last-taken : {before now : Option (List ℕ)} (X : List ℕ) (old new : Cutting) (left then : Option (List ℕ)) → (g : Goes task took (Some X) old left before now)
-      → TakesLine LastLine (rest_of old left) (rest_of new then) old new → IsUnended new.line
+      → TakesRawLine LastLine (rest_of old left) (rest_of new then) old new → IsUnended new.line
       → lines_of X ≡ g.lines ++ new.line ∷ []
   last-taken X old new left then g (takes, end, some, passed) unended =
       let (ys, told, cut) = told-by X old left g in
@@ -256,7 +256,7 @@ module _ (task : Task) (took : List (List ℕ) → Type 0) (law : IsTask task) w
   -- ---- the end of the input
 
   pub ends-close : {before now : Option (List ℕ)} (status : Status) (X : List ℕ) (old new : Cutting) (left then after : Option (List ℕ))
-      → (g : Goes task took (Some X) old left before now) → TakesLine End (rest_of old left) (rest_of new then) old new
+      → (g : Goes task took (Some X) old left before now) → TakesRawLine End (rest_of old left) (rest_of new then) old new
       → new.held.passed + length new.held.octets ≤ most_octets → Closes task status g.lines now after
       → EndsBy task status X then before after
   ends-close {before} {now} status X old new left then after g takes within closes =
@@ -356,7 +356,7 @@ module _ (task : Task) (took : List (List ℕ) → Type 0) (law : IsTask task) w
   not-taken TooLong X old new left then after g ending more unended takes all are passed within works = absurd works
 
   pub ends-line : {before now : Option (List ℕ)} (status : Status) (X : List ℕ) (old new : Cutting) (left then after : Option (List ℕ))
-      → (g : Goes task took (Some X) old left before now) → TakesLine Line (rest_of old left) (rest_of new then) old new → IsUnended new.line
+      → (g : Goes task took (Some X) old left before now) → TakesRawLine Line (rest_of old left) (rest_of new then) old new → IsUnended new.line
       → new.held.passed + length new.held.octets ≤ most_octets → WorksNot task status g.lines new.line now after
       → EndsBy task status X then before after
   ends-line status X old new left then after g takes unended within works =
@@ -367,7 +367,7 @@ module _ (task : Task) (took : List (List ℕ) → Type 0) (law : IsTask task) w
   -- ---- the last line
 
   pub ends-last : {before now : Option (List ℕ)} (status : Status) (X : List ℕ) (old new : Cutting) (left then after : Option (List ℕ))
-      → (g : Goes task took (Some X) old left before now) → TakesLine LastLine (rest_of old left) (rest_of new then) old new → IsUnended new.line
+      → (g : Goes task took (Some X) old left before now) → TakesRawLine LastLine (rest_of old left) (rest_of new then) old new → IsUnended new.line
       → new.held.passed + length new.held.octets ≤ most_octets → Finishes task status g.lines new.line now after
       → EndsBy task status X then before after
   ends-last {before} {now} status X old new left then after g (takes, end, some, passed) unended within finishes =

@@ -59,11 +59,11 @@ abbrev pub rest_of : Cutting → Option (List ℕ) → Option (List ℕ)
 rest_of c left = prepend_known c.held.octets left
 
 -- the next line: it ends by the octet 0a, it ends with the source, or there is none
-abbrev pub TakesLine : RawLine → Option (List ℕ) → Option (List ℕ) → Cutting → Cutting → Type 0
-TakesLine Line before now old new = Consumes before now (new.line ++ 10 ∷ []) × (new.held.passed ≡ old.held.passed + length new.line + 1)
-TakesLine LastLine before now old new = Consumes before now new.line × IsAtEnd now × (0 < length new.line)
+abbrev pub TakesRawLine : RawLine → Option (List ℕ) → Option (List ℕ) → Cutting → Cutting → Type 0
+TakesRawLine Line before now old new = Consumes before now (new.line ++ 10 ∷ []) × (new.held.passed ≡ old.held.passed + length new.line + 1)
+TakesRawLine LastLine before now old new = Consumes before now new.line × IsAtEnd now × (0 < length new.line)
     × (new.held.passed ≡ old.held.passed + length new.line)
-TakesLine End before now old new = (now ≡ before) × IsAtEnd before × (new.held.passed ≡ old.held.passed)
+TakesRawLine End before now old new = (now ≡ before) × IsAtEnd before × (new.held.passed ≡ old.held.passed)
 
 -- the source ended at or after the line
 abbrev pub SourceEnded : Result RawLine RawFault → Type 0

@@ -2,7 +2,7 @@
 
 ghost use Rattle.std.specs.Prelude.{◌≡◌, ◌+◌, ◌≤◌, ◌==◌, [], length, take, position, Ok, Err, IfOk, IfErr, OnOk};
 ghost use Rattle.wire_core.specs.Counts.{Counts};
-ghost use Rattle.transcript.specs.Streams.{Cuts, IsFirstPiece, IsUnended, SourceEnded, TakesLine, TakesNone, most_octets, rest_of};
+ghost use Rattle.transcript.specs.Streams.{Cuts, IsFirstPiece, IsUnended, SourceEnded, TakesRawLine, TakesNone, most_octets, rest_of};
 ghost use Rattle.transcript.specs.declared.raw_lines.RawFault.TheVariants.{Read};
 
 use crate::intake::{Intake, TakeFault};
@@ -132,7 +132,7 @@ impl RawLines {
 
     /// Takes the next line of the source.
     pub fn next_line<S: Source>(&mut self, source: &mut S) -> Result<RawLine, RawFault>
-        ensures line { IfOk result (λ line. TakesLine line (rest_of self.old (S.left source.old)) (rest_of self.new (S.left source.new)) self.old self.new) }
+        ensures line { IfOk result (λ line. TakesRawLine line (rest_of self.old (S.left source.old)) (rest_of self.new (S.left source.new)) self.old self.new) }
         ensures unended { IfOk result (λ line. IsUnended self.new.line) }
         ensures short { OnOk result (length self.new.line ≤ 140000) }
         ensures within { self.new.held.passed + length self.new.held.octets ≤ most_octets }

@@ -22,7 +22,7 @@ use Rattle.translation.specs.declared.service.Service.TheVariants.{Nasreq, Eap}
 use Rattle.translation.specs.declared.class.Class.{Class}
 use Rattle.translation.specs.declared.class.Class.TheVariants.{Bad, Refusal, Challenge, Success}
 use Rattle.translation.specs.Reading.{group_number, has_fault, has_unknown, has_bad_payload, is_challenge, kind_of, state_by, first_identity}
-use Rattle.translation.specs.Replies.{optional, carrier_code, carrier_value, image, image_of, images, reply_code, timeouts, eap_messages, reply_attributes, fits_packet, access_reply, bare_reply}
+use Rattle.translation.specs.Replies.{optional, session_code, carrier_value, image, image_of, images, reply_code, timeouts, eap_messages, reply_attributes, fits_packet, access_reply, bare_reply}
 use Rattle.translation.specs.Pushing.{Pushes}
 use Rattle.translation.specs.Answers.{is_error, is_of_other_session, has_refused_key, is_stateless, class_of, class_of_kind, outcome_of, outcome_in}
 use Rattle.translation.specs.Attempts.{reply_in, first_kind, first_class, unless_bad}
@@ -57,7 +57,7 @@ carrier_fits class session avps carrier e short = rw e (carrier_fits-by class se
 pub reply_written : (service : Service) (class : Class) (client : Client) (kept : Kept) (avps : List AvpParts) (strict : Bool) (carrier : Option (List ℕ)) (old new : ReplyParts) (octets : List ℕ)
     → carrier ≡ carrier_value class kept.session avps
     → old ≡ record { code = reply_code class; id = kept.id; request = kept.authenticator; sealed = true; attributes = [] }
-    → Pushes old new true (not (strict && has_fault class avps)) (optional (carrier_code class) carrier ++ images class avps ++ timeouts class avps ++ eap_messages service class avps ++ attributes_in kept.proxy)
+    → Pushes old new true (not (strict && has_fault class avps)) (optional (session_code class) carrier ++ images class avps ++ timeouts class avps ++ eap_messages service class avps ++ attributes_in kept.proxy)
     → octets ≡ reply_text client.secret new.request new.code new.id new.sealed new.attributes
     → is_stateless class kept avps ≡ false
     → Some octets ≡ reply_in service class client kept avps strict
@@ -72,14 +72,14 @@ pub reply_made : (service : Service) (class : Class) (client : Client) (kept : K
     → session ≡ kept.session → proxy ≡ kept.proxy → secret ≡ client.secret → code ≡ reply_code class
     → carrier ≡ carrier_value class session avps
     → old ≡ record { code = code; id = kept.id; request = kept.authenticator; sealed = true; attributes = [] }
-    → Pushes old new true (not (strict && has_fault class avps)) (optional (carrier_code class) carrier ++ images class avps ++ timeouts class avps ++ eap_messages service class avps ++ attributes_in proxy)
+    → Pushes old new true (not (strict && has_fault class avps)) (optional (session_code class) carrier ++ images class avps ++ timeouts class avps ++ eap_messages service class avps ++ attributes_in proxy)
     → octets ≡ reply_text secret new.request new.code new.id new.sealed new.attributes
     → stateless ≡ (is_challenge class && is_none carrier) → stateless ≡ false
     → Some octets ≡ reply_in service class client kept avps strict
 reply_made service class client kept avps strict carrier old new octets session proxy secret code stateless se pe xe ke ce oe pushed text st sf =
     let whole = ce ∙ ap (λ (s : List ℕ). carrier_value class s avps) se in
     let begun = oe ∙ ap (λ (n : ℕ). let r : ReplyParts = record { code = n; id = kept.id; request = kept.authenticator; sealed = true; attributes = [] } in r) ke in
-    let joined = subst (λ (p : List ℕ). Pushes old new true (not (strict && has_fault class avps)) (optional (carrier_code class) carrier ++ images class avps ++ timeouts class avps ++ eap_messages service class avps ++ attributes_in p)) pe pushed in
+    let joined = subst (λ (p : List ℕ). Pushes old new true (not (strict && has_fault class avps)) (optional (session_code class) carrier ++ images class avps ++ timeouts class avps ++ eap_messages service class avps ++ attributes_in p)) pe pushed in
     let written = text ∙ ap (λ (s : List ℕ). reply_text s new.request new.code new.id new.sealed new.attributes) xe in
     let stated = ap (λ (v : Option (List ℕ)). is_challenge class && is_none v) (sym whole) ∙ sym st ∙ sf in
     reply_written service class client kept avps strict carrier old new octets whole begun joined written stated

@@ -12,20 +12,20 @@ use Rattle.translation.specs.declared.direction.Direction.{Direction}
 use Rattle.translation.specs.declared.judging.Faults.{Faults}
 use Rattle.translation.specs.Values.{is_good, first_bad}
 use Rattle.translation.specs.Judging.{is_foreign, is_key_attribute, is_proxy_state, proxy_states, value_reason}
-use Rattle.translation.specs.Faults.{faults_in, none, noted, reason_of}
+use Rattle.translation.specs.Faults.{faults_in, none, faults_with, reason_of}
 
 foreign-fold : (client : Client) (source : ℕ) (direction : Direction) (found : Faults) (attributes : List AttributeParts)
-    → (fold (noted client source direction) found attributes).foreign ≡ (found.foreign || list_any (is_foreign client source) attributes)
+    → (fold (faults_with client source direction) found attributes).foreign ≡ (found.foreign || list_any (is_foreign client source) attributes)
 foreign-fold client source direction found [] = sym (or-false found.foreign)
 foreign-fold client source direction found (a ∷ attributes) =
-    foreign-fold client source direction (noted client source direction found a) attributes
+    foreign-fold client source direction (faults_with client source direction found a) attributes
     ∙ or_assoc found.foreign (is_foreign client source a) (list_any (is_foreign client source) attributes)
 
 key-fold : (client : Client) (source : ℕ) (direction : Direction) (found : Faults) (attributes : List AttributeParts)
-    → (fold (noted client source direction) found attributes).key ≡ (found.key || list_any is_key_attribute attributes)
+    → (fold (faults_with client source direction) found attributes).key ≡ (found.key || list_any is_key_attribute attributes)
 key-fold client source direction found [] = sym (or-false found.key)
 key-fold client source direction found (a ∷ attributes) =
-    key-fold client source direction (noted client source direction found a) attributes
+    key-fold client source direction (faults_with client source direction found a) attributes
     ∙ or_assoc found.key (is_key_attribute a) (list_any is_key_attribute attributes)
 
 or-none : (code : Option ℕ) → option_or code None ≡ code
@@ -40,10 +40,10 @@ bad-step None a false rest = refl
 bad-step (Some code) a good rest = refl
 
 bad-fold : (client : Client) (source : ℕ) (direction : Direction) (found : Faults) (attributes : List AttributeParts)
-    → (fold (noted client source direction) found attributes).bad ≡ option_or found.bad (option_map (λ (a : AttributeParts). a.code) (first_bad direction attributes))
+    → (fold (faults_with client source direction) found attributes).bad ≡ option_or found.bad (option_map (λ (a : AttributeParts). a.code) (first_bad direction attributes))
 bad-fold client source direction found [] = sym (or-none found.bad)
 bad-fold client source direction found (a ∷ attributes) =
-    bad-fold client source direction (noted client source direction found a) attributes
+    bad-fold client source direction (faults_with client source direction found a) attributes
     ∙ bad-step found.bad a (is_good direction a) (first_bad direction attributes)
 
 proxy-step : (before : ℕ) (a : AttributeParts) (is : Bool) (rest : List AttributeParts)
@@ -52,10 +52,10 @@ proxy-step before a true rest = omega (arith, length-append (attribute_text a) (
 proxy-step before a false rest = omega arith
 
 proxy-fold : (client : Client) (source : ℕ) (direction : Direction) (found : Faults) (attributes : List AttributeParts)
-    → (fold (noted client source direction) found attributes).proxy ≡ found.proxy + length (attributes_text (proxy_states attributes))
+    → (fold (faults_with client source direction) found attributes).proxy ≡ found.proxy + length (attributes_text (proxy_states attributes))
 proxy-fold client source direction found [] = omega arith
 proxy-fold client source direction found (a ∷ attributes) =
-    proxy-fold client source direction (noted client source direction found a) attributes
+    proxy-fold client source direction (faults_with client source direction found a) attributes
     ∙ proxy-step found.proxy a (is_proxy_state a) (proxy_states attributes)
 
 abbrev made : Bool → Bool → Option ℕ → ℕ → Faults
@@ -70,9 +70,9 @@ same_faults f g foreign key bad proxy =
 
 -- what the loop comes to
 pub faults_in-fold : (client : Client) (source : ℕ) (direction : Direction) (attributes : List AttributeParts)
-    → fold (noted client source direction) none attributes ≡ faults_in client source direction attributes
+    → fold (faults_with client source direction) none attributes ≡ faults_in client source direction attributes
 faults_in-fold client source direction attributes =
-    same_faults (fold (noted client source direction) none attributes) (faults_in client source direction attributes)
+    same_faults (fold (faults_with client source direction) none attributes) (faults_in client source direction attributes)
     (foreign-fold client source direction none attributes)
     (key-fold client source direction none attributes)
     (bad-fold client source direction none attributes)

@@ -31,8 +31,8 @@ bad_code direction a = if is_good direction a then None else Some a.code
 abbrev pub proxy_size : AttributeParts → ℕ
 proxy_size a = if is_proxy_state a then length a.value + 2 else 0
 
-abbrev pub noted : Client → ℕ → Direction → Faults → AttributeParts → Faults
-noted client source direction found a = record {
+abbrev pub faults_with : Client → ℕ → Direction → Faults → AttributeParts → Faults
+faults_with client source direction found a = record {
   foreign = found.foreign || is_foreign client source a;
   key = found.key || is_key_attribute a;
   bad = option_or found.bad (bad_code direction a);

@@ -22,13 +22,13 @@ abbrev pub is_foreign : Client → ℕ → AttributeParts → Bool
 is_foreign client source a = a.code == 4 && length a.value == 4 && not (is_own_address client source (number a.value))
 
 -- some part holds a key
-abbrev pub holds_key : Option (List VendorPart) → Bool
-holds_key None = false
-holds_key (Some parts) = list_any (λ p. is_key p.code (Some p.vendor)) parts
+abbrev pub has_key_part : Option (List VendorPart) → Bool
+has_key_part None = false
+has_key_part (Some parts) = list_any (λ p. is_key p.code (Some p.vendor)) parts
 
 -- an attribute that holds a key, itself or in a part of a Vendor-Specific one (RFC 2548; RFC 2868, section 3.5)
 abbrev pub is_key_attribute : AttributeParts → Bool
-is_key_attribute a = is_key a.code None || (a.code == 26 && holds_key (vendor_parts a.value))
+is_key_attribute a = is_key a.code None || (a.code == 26 && has_key_part (vendor_parts a.value))
 
 abbrev pub is_proxy_state : AttributeParts → Bool
 is_proxy_state a = a.code == 33

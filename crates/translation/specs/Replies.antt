@@ -38,9 +38,9 @@ reply_code Bad = 3
 
 -- ---- the session: in a success as Class (25), in a challenge as State (24)
 
-abbrev pub carrier_code : Class → ℕ
-carrier_code Success = 25
-carrier_code _ = 24
+abbrev pub session_code : Class → ℕ
+session_code Success = 25
+session_code _ = 24
 
 abbrev pub carrier_value : Class → List ℕ → List AvpParts → Option (List ℕ)
 carrier_value Success session avps = Some (class_text session)
@@ -48,7 +48,7 @@ carrier_value Challenge session avps = state_of session avps
 carrier_value _ session avps = None
 
 abbrev pub carrier : Class → List ℕ → List AvpParts → List AttributeParts
-carrier class session avps = optional (carrier_code class) (carrier_value class session avps)
+carrier class session avps = optional (session_code class) (carrier_value class session avps)
 
 -- ---- the AVPs in order
 

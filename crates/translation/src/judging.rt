@@ -43,8 +43,8 @@ fn is_foreign(client: &Client, source: u32, attribute: &Attribute<'_>) -> bool
 }
 
 /// Whether a part of a Vendor-Specific attribute holds a key.
-fn holds_key(value: &[u8]) -> bool
-    ensures { result ≡ specs.holds_key (vendor_parts value.now) }
+fn has_key_part(value: &[u8]) -> bool
+    ensures { result ≡ specs.has_key_part (vendor_parts value.now) }
 {
     match vsa(value) {
         Some(mut parts) => parts.any(|part| is_key(part.code.into(), Some(part.vendor))),
@@ -56,7 +56,7 @@ fn is_key_attribute(attribute: &Attribute<'_>) -> bool
     ensures { result ≡ specs.is_key_attribute (attribute_view attribute.now) }
 {
     is_key(attribute.code.into(), None)
-        || attribute.code == VENDOR_SPECIFIC && holds_key(attribute.value)
+        || attribute.code == VENDOR_SPECIFIC && has_key_part(attribute.value)
 }
 
 fn bad_code(direction: Direction, attribute: &Attribute<'_>) -> Option<u8>
@@ -103,7 +103,7 @@ impl Faults {
         attribute: &Attribute<'_>,
     ) -> Faults
         requires { self.proxy + length attribute.now.value.now ≤ 4096 }
-        ensures { result ≡ faults.noted client.now source direction self (attribute_view attribute.now) }
+        ensures { result ≡ faults.faults_with client.now source direction self (attribute_view attribute.now) }
     {
         Faults {
             foreign: self.foreign || is_foreign(client, source, attribute),

@@ -330,8 +330,8 @@ fn push_payload(
     }
 }
 
-fn carrier_code(class: Class) -> u8
-    ensures { result ≡ replies.carrier_code class }
+fn session_code(class: Class) -> u8
+    ensures { result ≡ replies.session_code class }
 {
     match class {
         Class::Success => CLASS,
@@ -343,10 +343,10 @@ fn carrier_code(class: Class) -> u8
 fn push_carrier(reply: &mut Reply, class: Class, carrier: &Option<Octets>) -> Result<(), Unfit>
     requires short { reply_length reply.old ≤ 4096 }
     requires carrier { IfSome carrier.now (λ value. length value ≤ 253) }
-    ensures { Pushes reply.old reply.new (is_ok result) true (optional (replies.carrier_code class) carrier.now) }
+    ensures { Pushes reply.old reply.new (is_ok result) true (optional (replies.session_code class) carrier.now) }
 {
     match carrier {
-        Some(value) => push(reply, carrier_code(class), value.as_slice()),
+        Some(value) => push(reply, session_code(class), value.as_slice()),
         None => Ok(()),
     }
 }
@@ -378,7 +378,7 @@ pub(crate) fn push_all(
     requires whole { proxy.now ≡ attributes_text (attributes_in proxy.now) }
     ensures { let avps = list_view list.now in
         Pushes reply.old reply.new (is_ok result) (not (strict && reading.has_fault class avps))
-        (optional (replies.carrier_code class) carrier.now ++ replies.images class avps ++ replies.timeouts class avps
+        (optional (replies.session_code class) carrier.now ++ replies.images class avps ++ replies.timeouts class avps
         ++ replies.eap_messages service class avps ++ attributes_in proxy.now) }
 {
     push_carrier(reply, class, carrier)?;
