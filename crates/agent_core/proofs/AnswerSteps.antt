@@ -1,5 +1,5 @@
 -- An answer that the link hands on: the step is the place.
-use Rattle.std.proofs.Common.{◌≡◌, ℕ, ◌+◌, ◌%◌, inl, Bool, true, false, cond, ◌&&◌, List, [], ◌∷◌, length, find, option_map, Option, Some, None, refl, sym, ◌∙◌, ap, subst, arith}
+use Rattle.std.proofs.Common.{◌≡◌, ℕ, ◌+◌, ◌%◌, inl, Bool, true, false, cond, List, [], ◌∷◌, length, find, option_map, Option, Some, None, refl, sym, ◌∙◌, ap, subst, arith}
 use Rattle.std.specs.Prelude.{◌==◌, is_some, slice_get}
 use Rattle.radius_packet.specs.declared.reasons.Reason.TheVariants as reasons
 use Rattle.diameter_message.specs.Message.{MessageParts}
@@ -30,16 +30,9 @@ use Rattle.agent_core.proofs.Numbers.{numbered, waiting-fits, number-agrees, wai
 use Rattle.agent_core.proofs.HeardPlaces.{heard_place, heard-resent, heard-number, heard-stands, HandsOn, Follow}
 use Rattle.agent_core.proofs.Answered.{reply-first, answered-entries, outcome-by, place-agrees}
 use Rattle.agent_core.proofs.Steps.{Before, Reaches, numbers-fit}
+use Rattle.agent_core.proofs.Counts.{and-true, and-false}
 
 -- ---- what follows an answer
-
-and-true : (b : Bool) → (b && true) ≡ b
-and-true true = refl
-and-true false = refl
-
-and-false : (b : Bool) → (b && false) ≡ false
-and-false true = refl
-and-false false = refl
 
 outcome-follows : (numbers : Numbers) (key : Key) (o : Outcome) → ((octets : List ℕ) → o.follow ≡ Some octets → EndsSession numbers octets) → Follow (outcome_outputs key o) (count_of (is_some o.follow))
 outcome-follows numbers key o ends = record {

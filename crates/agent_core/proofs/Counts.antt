@@ -165,11 +165,11 @@ own-count test b looks wants is names l end message (Request r) =
 own-count test b looks wants is names l end message (Answer code error) = answered-none test wants names message code error
 own-count test b looks wants is names l end message (AnswerAndClose code cause) = answered-none test wants names message code false
 
-and-true : (b : Bool) → (b && true) ≡ b
+pub and-true : (b : Bool) → (b && true) ≡ b
 and-true true = refl
 and-true false = refl
 
-and-false : (b : Bool) → (b && false) ≡ false
+pub and-false : (b : Bool) → (b && false) ≡ false
 and-false true = refl
 and-false false = refl
 

@@ -31,19 +31,12 @@ use Rattle.agent_core.specs.History.{at_input, place, past, linked, answered, he
 use Rattle.agent_core.specs.Rooms.{has_spare}
 use Rattle.agent_core.specs.LawsOfRequests.{Once, IsMatchedOnce, MatchesOne, Settled, IsSettled, SettlesAt, answer_outputs, is_open}
 use Rattle.agent_core.proofs.Lists.{AllByRecursion-weaken, find-All}
+use Rattle.agent_core.proofs.Opened.{filter-true}
 use Rattle.agent_core.proofs.Numbers.{Alone, numbered, waiting-alone}
 use Rattle.agent_core.proofs.Histories.{Standing}
 use Rattle.agent_core.proofs.LawPlaces.{place-by, history-by, known}
 
 -- ---- matched once
-
-pub filter-true : (p : Taking → Bool) (ts : List Taking) → AllByRecursion (λ t. p t ≡ true) (filter p ts)
-filter-true p [] = tt
-filter-true p (t ∷ ts) =
-    elim (p t) as (λ b. p t ≡ b → AllByRecursion (λ x. p x ≡ true) (cond b (t ∷ filter p ts) (filter p ts))) [
-      | true ↦ (λ e. (e, filter-true p ts))
-      | false ↦ (λ e. filter-true p ts)
-    ] refl
 
 not-some : (o : Option Place) → not (is_some o) ≡ true → o ≡ None
 not-some None e = refl

@@ -13,8 +13,6 @@ use Rattle.session_carrier.specs.declared.kept.Kind2.{Kind2}
 use Rattle.session_carrier.specs.declared.kept.Kind2.TheVariants.{Access, Eap, Start, Interim, Stop}
 use Rattle.agent_config.specs.declared.config.Config.{Config}
 use Rattle.pending_table.specs.declared.key.Key.{Key}
-use Rattle.peer_machine.specs.declared.Phase.{Phase}
-use Rattle.peer_machine.specs.declared.Phase.TheVariants.{Closed as Shut, Greeting, Serving, Closing}
 use Rattle.peer_machine.specs.declared.LinkCause.{LinkCause}
 use Rattle.peer_machine.specs.declared.messages.Names.{Names}
 use Rattle.peer_machine.specs.declared.words.LinkState.{LinkState}
@@ -23,9 +21,8 @@ use Rattle.peer_machine.specs.declared.words.BaseRequest.TheVariants.{Capabiliti
 use Rattle.peer_machine.specs.declared.words.Act.{Act}
 use Rattle.peer_machine.specs.declared.words.Act.TheVariants.{Nothing, Serve, Discard, Pass, Close, Request, Answer, AnswerAndClose}
 use Rattle.peer_machine.specs.declared.words.Event.{Event as LinkEvent}
-use Rattle.peer_machine.specs.declared.words.Event.TheVariants.{Opens, Serves, Says, Breaks, Ends, Ticks, Leaves}
 use Rattle.peer_machine.specs.Messages.{command_of, details, request_header, request_text}
-use Rattle.peer_machine.specs.Rules.{noted, may_begin, begun, heard_at}
+use Rattle.peer_machine.specs.Rules.{noted}
 use Rattle.peer_machine.specs.Step.{PeerParts, link_at, sent, is_request as asks}
 use Rattle.agent_core.specs.declared.events.Input.{Input}
 use Rattle.agent_core.specs.declared.events.Output.{Output}
@@ -45,6 +42,7 @@ use Rattle.agent_core.proofs.Headers.{Counts, header_of-text, header_by-counts, 
 use Rattle.agent_core.proofs.FollowHeaders.{follow_ends_session}
 use Rattle.agent_core.proofs.TakenSteps.{sent-header}
 use Rattle.agent_core.proofs.Agreeing.{StandsAt-later, opens-agrees}
+use Rattle.agent_core.proofs.LinkRequests.{noted-requests}
 use Rattle.agent_core.proofs.Opening.{opening}
 use Rattle.agent_core.proofs.Roomy.{IsRoomy-later, before-opening}
 use Rattle.agent_core.proofs.Histories.{Standing}
@@ -297,26 +295,6 @@ own-numbers config n total names l message (Close cause) next = own-none config 
 own-numbers config n total names l message (Request r) next = own-request config n total names l message r next
 own-numbers config n total names l message (Answer code error) next = own-none config n total names l (end_number config total) message (Answer code error) refl
 own-numbers config n total names l message (AnswerAndClose code cause) next = own-none config n total names l (end_number config total) message (AnswerAndClose code cause) refl
-
-heard-requests : (phase : Phase) (l : LinkState) (m : ℕ) → (heard_at phase l m).requests ≡ l.requests
-heard-requests Shut l m = refl
-heard-requests Greeting l m = refl
-heard-requests Serving l m = refl
-heard-requests Closing l m = refl
-
-begun-requests : (b : Bool) (l : LinkState) (m : ℕ) → (cond b (begun l m) l).requests ≡ cond b 0 l.requests
-begun-requests true l m = refl
-begun-requests false l m = refl
-
--- a link that begins has sent none
-noted-requests : (l : LinkState) (m : ℕ) (event : LinkEvent) → (noted l m event).requests ≡ cond (begins_by l event) 0 l.requests
-noted-requests l m Opens = begun-requests (may_begin l.phase l.number) l m
-noted-requests l m Serves = begun-requests (may_begin l.phase l.number) l m
-noted-requests l m (Says said) = heard-requests l.phase l m
-noted-requests l m (Breaks fault) = refl
-noted-requests l m Ends = refl
-noted-requests l m Ticks = refl
-noted-requests l m Leaves = refl
 
 rest-of : (b : Bool) (n : ℕ) → cond b 0 (n % 2147483648) ≡ cond b 0 n % 2147483648
 rest-of true n = omega arith

@@ -23,7 +23,7 @@ heard-requests Greeting l m = refl
 heard-requests Serving l m = refl
 heard-requests Closing l m = refl
 
-noted-requests : (l : LinkState) (m : ℕ) (event : LinkEvent) → (noted l m event).requests ≡ cond (begins_by l event) 0 l.requests
+pub noted-requests : (l : LinkState) (m : ℕ) (event : LinkEvent) → (noted l m event).requests ≡ cond (begins_by l event) 0 l.requests
 noted-requests l m Opens = begun-requests l m (may_begin l.phase l.number)
 noted-requests l m Serves = begun-requests l m (may_begin l.phase l.number)
 noted-requests l m (Says said) = heard-requests l.phase l m

@@ -22,7 +22,7 @@ Ascending-filter p (t ∷ ts) up =
       | false ↦ Ascending-filter p ts up.1
     ]
 
-filter-true : (p : Taking → Bool) (ts : List Taking) → AllByRecursion (λ t. p t ≡ true) (filter p ts)
+pub filter-true : (p : Taking → Bool) (ts : List Taking) → AllByRecursion (λ t. p t ≡ true) (filter p ts)
 filter-true p [] = tt
 filter-true p (t ∷ ts) =
     elim (p t) as (λ b. p t ≡ b → AllByRecursion (λ x. p x ≡ true) (cond b (t ∷ filter p ts) (filter p ts))) [
