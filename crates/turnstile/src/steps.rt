@@ -13,6 +13,7 @@ use crate::view::View;
 use atomic_table::{Seat, Shared};
 use std::snapshot::Snapshot;
 use std::sync::Wait;
+use std::sync::atomic::{AtomicU32, Ordering};
 use std::thread;
 
 /// The word that counts the tickets drawn.
@@ -42,8 +43,14 @@ pub(crate) fn draw<D: Desk>(top: &Top<D>, seat: &mut Place<D>) -> u64
     top.fetch_add::<Draw>(seat, TICKET, 1)
 }
 
-/// Waits until the ticket is due. It yields some times, and then sleeps until a turn is over.
-pub(crate) fn wait<D: Desk, R: Wait>(rt: &R, top: &Top<D>, seat: &mut Place<D>, ticket: u64)
+/// Waits until the ticket is due. It yields some times, and then sleeps until a turn is over, as one of so many sleepers.
+pub(crate) fn wait<D: Desk, R: Wait>(
+    rt: &R,
+    top: &Top<D>,
+    seat: &mut Place<D>,
+    ticket: u64,
+    sleepers: &AtomicU32,
+)
     requires table { (seat.old.table_id ≡ top.now.table_id) × (top.now.table_id.words ≡ 2) × (top.now.table_id.slots ≡ 1) }
     requires drawn { AtTicket seat.old ticket }
     requires ready { (seat.old.me.0.told ≡ []) × (seat.old.me.1 ≡ []) × (0 < length seat.old.me.0.known.numbers) }
@@ -60,7 +67,9 @@ pub(crate) fn wait<D: Desk, R: Wait>(rt: &R, top: &Top<D>, seat: &mut Place<D>, 
             yields += 1;
             thread::yield_now();
         } else {
+            sleepers.fetch_add(1, Ordering::SeqCst);
             top.park(rt, TURN, (turn % 0x1_0000_0000) as u32);
+            sleepers.fetch_sub(1, Ordering::SeqCst);
         }
     }
     unreachable!()
@@ -126,11 +135,11 @@ pub(crate) fn finish<D: Desk>(top: &Top<D>, seat: &mut Place<D>) -> D
     top.exchange(seat, 0, None).unwrap()
 }
 
-/// Wakes those that wait, where a ticket is out. Who draws one later than this looks finds the turn raised already.
-pub(crate) fn wake<D: Desk>(top: &Top<D>, ticket: u64)
+/// Wakes those that sleep, where one does. Who goes to sleep later than this looks finds the turn raised already.
+pub(crate) fn wake<D: Desk>(top: &Top<D>, sleepers: &AtomicU32)
     requires { top.now.table_id.words ≡ 2 }
 {
-    if top.peek(TICKET) != ticket.wrapping_add(1) {
+    if sleepers.load(Ordering::SeqCst) != 0 {
         top.wake_all(TURN);
     }
 }

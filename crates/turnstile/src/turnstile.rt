@@ -14,6 +14,7 @@ use std::alloc::Global;
 use std::marker::{Brand, Model};
 use std::snapshot::Snapshot;
 use std::sync::Wait;
+use std::sync::atomic::AtomicU32;
 use wire_core::NoMemory;
 
 /// One state, at which the threads that have passes take turns. Contracts see it as the name of its table, which
@@ -21,6 +22,8 @@ use wire_core::NoMemory;
 #[derive(Drop)]
 pub struct Turnstile<D: Desk> {
     table: Table<Option<D>, View<D, D::Ask, D::Answer>, Snapshot<D>, Order, Global>,
+    /// How many visits sleep.
+    sleepers: AtomicU32,
 }
 
 impl<D: Desk> Model for Turnstile<D> {
@@ -48,7 +51,10 @@ impl<D: Desk> Turnstile<D> {
         let about = Snapshot::of(&desk);
         let slots = slot_for(alloc, desk)?;
         match Table::new(alloc, &[0, 0], slots, &about) {
-            Ok((table, seat)) => Ok((Turnstile { table }, PassOf { seat })),
+            Ok((table, seat)) => {
+                let sleepers = AtomicU32::new(0);
+                Ok((Turnstile { table, sleepers }, PassOf { seat }))
+            }
             Err(refused) => Err(desk_of(refused.slots)),
         }
     }
@@ -69,10 +75,10 @@ impl<D: Desk> Turnstile<D> {
     {
         let top = &self.table.shared;
         let ticket = draw(top, &mut pass.seat);
-        wait(rt, top, &mut pass.seat, ticket);
+        wait(rt, top, &mut pass.seat, ticket, &self.sleepers);
         let outcome = serve(top, &mut pass.seat, ask);
         raise::<D, Brand>(top, &mut pass.seat, ask, &outcome);
-        wake(top, ticket);
+        wake(top, &self.sleepers);
         outcome
     }
 
