@@ -22,7 +22,8 @@ use wire_core::NoMemory;
 /// The agent's state. Contracts see what it keeps, and say for which history it stands.
 #[derive(Debug, Drop)]
 pub struct Core {
-    ledger: Ledger,
+    /// On the heap, so that a core that is handed on isn't copied.
+    ledger: Box<Ledger, Global>,
 }
 
 impl Model for Core {
@@ -31,9 +32,9 @@ impl Model for Core {
 
     ghost Value = { Ledger };
 
-    ghost view = { λ c. c.ledger };
+    ghost view = { λ c. c.ledger.value };
 
-    ghost invariant = { λ c. IsCore c.ledger };
+    ghost invariant = { λ c. IsCore c.ledger.value };
 }
 
 /// Each of these is an octet.
@@ -58,7 +59,14 @@ impl Core {
         ensures stands { IfOk result (λ c. StandsFor c []) }
     {
         let ledger = Ledger::new(alloc, random, config)?;
-        Ok(Core { ledger })
+        let boxed = Box::new(alloc, ledger)?;
+        Ok(Core { ledger: boxed })
+    }
+
+    fn ledger(&self) -> &Ledger
+        ensures { result.now ≡ self.now }
+    {
+        &self.ledger
     }
 
     /// One step: what goes out for an input that comes at `moment`, in milliseconds, after a history. The
@@ -84,7 +92,7 @@ impl Core {
     pub fn config(&self) -> &Config
         ensures { result.now ≡ self.now.config }
     {
-        &self.ledger.config
+        &self.ledger().config
     }
 
     /// Where the link to the home server stands.
@@ -92,7 +100,7 @@ impl Core {
         ensures kept { result ≡ self.now.peer.link.phase }
         ensures rule { (H : List Event) → StandsFor self.now H → result ≡ (places.link (past self.now.config H)).phase }
     {
-        self.ledger.peer.phase()
+        self.ledger().peer.phase()
     }
 
     /// Whether this input begins a link: an Up or a Ready, while the link is closed and fewer than 2^64 - 1 began.
@@ -100,7 +108,7 @@ impl Core {
         ensures kept { result ≡ machine.begins_on self.now.peer.link input.now }
         ensures rule { (H : List Event) → StandsFor self.now H → result ≡ places.begins (past self.now.config H) input.now }
     {
-        matches!(input, Input::Up | Input::Ready) && self.ledger.may_begin()
+        matches!(input, Input::Up | Input::Ready) && self.ledger().may_begin()
     }
 
     /// What was sent on the link since the last Drain.
@@ -108,7 +116,7 @@ impl Core {
         ensures kept { result ≡ self.now.outbox }
         ensures rule { (H : List Event) → StandsFor self.now H → result ≡ places.outbox (past self.now.config H) }
     {
-        self.ledger.outbox
+        self.ledger().outbox
     }
 
     /// How many requests live at `moment`, or at the greatest moment so far where that is later.
@@ -117,7 +125,8 @@ impl Core {
         ensures rule { (H : List Event) → StandsFor self.now H → result
             ≡ length (places.live self.now.config (past self.now.config H) (max (places.now (past self.now.config H)) moment)) }
     {
-        self.ledger.table.len(self.ledger.moment.max(moment))
+        let ledger = self.ledger();
+        ledger.table.len(ledger.moment.max(moment))
     }
 
     /// How many of those wait for their answer.
@@ -126,6 +135,7 @@ impl Core {
         ensures rule { (H : List Event) → StandsFor self.now H → result
             ≡ length (places.waiting self.now.config (past self.now.config H) (max (places.now (past self.now.config H)) moment)) }
     {
-        self.ledger.table.waiting(self.ledger.moment.max(moment))
+        let ledger = self.ledger();
+        ledger.table.waiting(ledger.moment.max(moment))
     }
 }

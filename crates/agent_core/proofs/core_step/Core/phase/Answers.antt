@@ -5,4 +5,4 @@ use Rattle.agent_core.proofs.core_step.Core.phase.Goals as goal
 
 pub returns-clause-rule : goal.returns-clause-rule
 returns-clause-rule c = λ history stands.
-    c.phase.ensures ∙ ap (λ (S : Ledger). S.peer.link.phase) c.self.view_is ∙ phase-agrees _ _ c.args.self.now stands
+    c.phase.ensures ∙ ap (λ (S : Ledger). S.peer.link.phase) c.ledger.ensures ∙ phase-agrees _ _ c.args.self.now stands

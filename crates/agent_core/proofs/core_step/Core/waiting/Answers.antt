@@ -7,6 +7,6 @@ use Rattle.agent_core.proofs.core_step.Core.waiting.Goals as goal
 pub returns-clause-rule : goal.returns-clause-rule
 returns-clause-rule c = λ history stands.
     c.waiting.ensures.exact
-    ∙ ap (λ n. length (table.waiting c.self.inside.ledger.table n)) c.max.ensures
-    ∙ ap (λ (S : Ledger). length (table.waiting S.table (max S.moment c.args.moment))) c.self.view_is
+    ∙ ap (λ n. length (table.waiting c.ledger-ledger.result.now.table n)) c.max.ensures
+    ∙ ap (λ (S : Ledger). length (table.waiting S.table (max S.moment c.args.moment))) c.ledger-ledger.ensures
     ∙ waiting-seen c.args.self.now history c.args.moment stands
