@@ -162,9 +162,7 @@ pub(crate) fn write_link<R: Wait, C: Clock, O: LinkOut>(
         if heard.finished {
             return leave(rt, alloc, turnstile, pass, link, &mut sound);
         }
-        if heard.sends.as_slice().is_empty() {
-            link.rest();
-        }
+        link.rest();
     }
     unreachable!()
 }

@@ -93,7 +93,7 @@ pub trait LinkOut {
     fn send(&mut self, octets: &[u8]) -> Put
         ensures { Speaks result (told self.old) (told self.new) octets.now };
 
-    /// May pause, where nothing is to be sent.
+    /// May pause, while more comes that is to be sent.
     fn rest(&mut self)
         ensures { told self.new ≡ told self.old };
 

@@ -21,6 +21,12 @@ const PATIENCE: u64 = 8_000;
 /// How long a rest lasts at most, in milliseconds.
 const REST: u64 = 10;
 
+/// A piece of more octets than this is taken for several messages, which gather where the link is under load.
+const CROWD: usize = 256;
+
+/// How long a rest behind such a piece lasts, in microseconds, to which Linux adds some 50 of its own (timer slack).
+const GATHERING: u64 = 10;
+
 /// A stream of std that octets come from.
 #[derive(Drop)]
 pub struct TcpIn {
@@ -84,6 +90,8 @@ pub struct TcpOut<R> {
     rt: R,
     stream: TcpStream,
     waker: Option<Waker>,
+    /// Whether several messages went out since the last rest.
+    crowded: bool,
     faults: u64,
 }
 
@@ -99,6 +107,7 @@ impl<R: Wait + rt::Clock> LinkOut for TcpOut<R> {
     ghost told = { λ n. record { handed = None; faults = n } };
 
     fn send(&mut self, octets: &[u8]) -> Put {
+        self.crowded |= CROWD < octets.len();
         match self.stream.write_all(octets) {
             Ok(()) => Put::Done,
             Err(_) => {
@@ -108,13 +117,18 @@ impl<R: Wait + rt::Clock> LinkOut for TcpOut<R> {
         }
     }
 
-    /// Pauses until it is woken, and for a hundredth of a second at most.
+    /// Pauses until it is woken, and for a hundredth of a second at most. Behind several messages it pauses for a moment
+    /// instead, so that more gather and go out in one piece.
     fn rest(&mut self) {
         let longest = Duration::from_millis(REST);
-        match &self.waker {
-            Some(waker) => waker.rest(&self.rt, longest),
-            None => thread::sleep(&self.rt, longest),
+        if self.crowded {
+            thread::sleep(&self.rt, Duration::from_micros(GATHERING));
+        } else if let Some(waker) = &self.waker {
+            waker.rest(&self.rt, longest);
+        } else {
+            thread::sleep(&self.rt, longest);
         }
+        self.crowded = false;
     }
 
     fn close(&mut self) {
@@ -143,6 +157,7 @@ pub(crate) fn ends_of<R: Copy>(
         rt,
         stream: other,
         waker,
+        crowded: false,
         faults: 0,
     };
     Ok((link_in, link_out))

@@ -3,7 +3,6 @@ use Rattle.wire_devices.specs.Links.{Outlet}
 use Rattle.turnstile.specs.Passes.{known}
 use Rattle.agent_server.proofs.WritingLemmas.{Rounds, rounds-none, rounds-on, wrote-closed, wrote-left}
 use Rattle.agent_server.proofs.link_writer.write_link.Goals as goal
-use Rattle.agent_server.proofs.link_writer.write_link.Goals.{then-is_empty, else-is_empty}
 
 pub loop-init : goal.loop-init
 loop-init g c = (refl, rounds-none (known c.args.pass.now) (g.O.LinkOut.told c.args.link.now))
@@ -25,13 +24,9 @@ returns-then-heard-clause-wrote g c =
     (c.in_default-goes_for.ensures.leave c.if-heard.true) c.leave.ensures.took
 
 pub loop-preserved : goal.loop-preserved
-loop-preserved g c =
-    let heard = c.in-Some-drain.heard in
-    let so_far = rounds-on (Some heard) _ _ _ _ _ _ _ _ c.loop.invariant.1 c.in-Some-drain.ensures.wrote
-    ((c.in_default-goes_for.ensures.none c.if-heard.false, c.if-heard.false), tt) in (
-      c.in-Some-drain.ensures.table ∙ c.loop.invariant.0,
-      elim c.if-is_empty.branch [
-        | then-is_empty w ↦ rw (w.link-is, w.rest-then-is_empty.ensures) so_far
-        | else-is_empty w ↦ rw w.link-is so_far
-      ],
-    )
+loop-preserved g c = (
+  c.in-Some-drain.ensures.table ∙ c.loop.invariant.0,
+  subst (λ (o : Outlet). Rounds c.drain.new.sound (known c.args.pass.now) (known c.drain.new.pass) (g.O.LinkOut.told c.args.link.now) o) (sym c.rest-in-loop.ensures)
+      (rounds-on (Some c.in-Some-drain.heard) _ _ _ _ _ _ _ _ c.loop.invariant.1 c.in-Some-drain.ensures.wrote
+      ((c.in_default-goes_for.ensures.none c.if-heard.false, c.if-heard.false), tt)),
+)
