@@ -4,8 +4,9 @@
  *
  * Each request is a new one: another authenticator, and the password nemo/arctangent hidden under it (RFC 2865, section
  * 5.2). One that isn't answered within two seconds is counted as lost and takes its place anew. Where PID is given, the
- * processor time of that process over the run is told, too; where RATE is, at most so many are sent a second. One line a
- * second tells the answers of that second.
+ * processor time of that process over the run is told, too, and the run ends within a second after that process: its figures
+ * are then those up to the last full second before. Where RATE is given, at most so many are sent a second. One line a second
+ * tells the answers of that second, and the processor time of each of them.
  *
  * cc -O2 -o load load.c -lcrypto
  */
@@ -44,7 +45,7 @@ static int64_t now(void) {
     return (int64_t)t.tv_sec * 1000000 + t.tv_nsec / 1000;
 }
 
-/* The processor time of a process in microseconds. */
+/* The processor time of a process in microseconds, -1 where it has ended. */
 static int64_t processor_time(const char *pid) {
     char path[64], text[1024];
     long user = 0, kernel = 0;
@@ -55,8 +56,18 @@ static int64_t processor_time(const char *pid) {
     fclose(file);
     text[count] = 0;
     char *rest = strrchr(text, ')');
-    if (!rest || sscanf(rest + 2, "%*c %*d %*d %*d %*d %*d %*u %*u %*u %*u %*u %ld %ld", &user, &kernel) != 2) return -1;
-    return (user + kernel) * (1000000 / sysconf(_SC_CLK_TCK));
+    char state;
+    if (!rest || sscanf(rest + 2, "%c %*d %*d %*d %*d %*d %*u %*u %*u %*u %*u %ld %ld", &state, &user, &kernel) != 3) return -1;
+    return state == 'Z' || state == 'X' ? -1 : (user + kernel) * (1000000 / sysconf(_SC_CLK_TCK));
+}
+
+/* How far the run is. */
+struct mark {
+    int64_t moment, answered, accepted, used;
+};
+
+static struct mark mark_now(const char *process) {
+    return (struct mark){now(), answered, accepted, process ? processor_time(process) : 0};
 }
 
 static void digest(const uint8_t *first, size_t first_length, const uint8_t *second, size_t second_length, uint8_t *out) {
@@ -161,28 +172,36 @@ int main(int argc, char **argv) {
     int in_flight = atoi(argv[4]);
     int count = open_doors(argv[1], atoi(argv[2]), in_flight);
     struct pollfd polled[MOST_SOCKETS];
-    int64_t used = argc > 6 ? processor_time(argv[6]) : -1;
+    const char *process = argc > 6 ? argv[6] : NULL;
+    int64_t used = process ? processor_time(process) : 0;
+    int ended = used < 0;
     rate = argc > 7 ? atoll(argv[7]) : 0;
     begin = now();
-    int64_t end = begin + atoll(argv[5]) * 1000000, second = begin + 1000000, before = 0;
+    int64_t end = begin + atoll(argv[5]) * 1000000, second = begin + 1000000;
+    struct mark mark = {begin, 0, 0, used};
     for (int d = 0; d < count; d++) polled[d] = (struct pollfd){.fd = doors[d].socket, .events = POLLIN};
-    for (int64_t moment = begin; moment < end; moment = now()) {
+    for (int64_t moment = begin; moment < end && !ended; moment = now()) {
         int held = send_held(count, moment);
         poll(polled, (nfds_t)count, held ? 1 : 100);
         for (int d = 0; d < count; d++)
             if (polled[d].revents) take_replies(&doors[d], end);
         if (moment >= second) {
-            printf("second %lld\n", (long long)(answered - before));
-            before = answered;
+            struct mark next = mark_now(process);
+            ended = next.used < 0;
+            if (ended) break;
+            int64_t answers = next.answered - mark.answered;
+            printf("second %lld %.1f\n", (long long)answers, answers ? (double)(next.used - mark.used) / (double)answers : 0);
+            mark = next;
             second += 1000000;
             send_lost_anew(count, moment);
         }
     }
-    double seconds = (double)(now() - begin) / 1e6;
+    if (!ended) mark = mark_now(process);
+    double seconds = (double)(mark.moment - begin) / 1e6;
+    if (ended) printf("process %s has ended; up to %.0f seconds:\n", process, seconds);
     printf("in flight %d: %.0f logins a second, %lld answered, %lld accepted, %lld lost, mean %.0f us, slowest %lld us\n", in_flight,
-           (double)answered / seconds, (long long)answered, (long long)accepted, (long long)lost,
+           (double)mark.answered / seconds, (long long)mark.answered, (long long)mark.accepted, (long long)lost,
            answered ? (double)spent / (double)answered : 0, (long long)slowest);
-    if (used >= 0)
-        printf("processor time %.1f us a login\n", answered ? (double)(processor_time(argv[6]) - used) / (double)answered : 0);
+    if (process) printf("processor time %.1f us a login\n", mark.answered ? (double)(mark.used - used) / (double)mark.answered : 0);
     return 0;
 }
