@@ -1,5 +1,5 @@
 -- A request is matched once, and settled then.
-use Rattle.std.proofs.Common.{◌≡◌, ◌≢◌, ℕ, ◌+◌, ◌≤◌, Bool, true, false, cond, ◌&&◌, not, List, [], ◌∷◌, filter, find, Option, Some, None, Ok, refl, sym, ◌∙◌, ap, subst, arith, ◌++◌, option_map}
+use Rattle.std.proofs.Common.{◌≡◌, ◌≢◌, ℕ, ◌+◌, ◌≤◌, Bool, true, false, cond, ◌&&◌, not, List, [], ◌∷◌, find, Option, Some, None, Ok, refl, sym, ◌∙◌, ap, subst, arith, ◌++◌, option_map}
 use Rattle.std.specs.Prelude.{◌==◌, nat_lt, count_by, is_some, max, option_to_list}
 use Rattle.std.specs.List.{AllByRecursion}
 use Rattle.std.proofs.lemmas.Bool.{and_parts, eqb-true, eq-eqb, lt-ltb, leb-false}

@@ -22,7 +22,6 @@ use Rattle.peer_machine.specs.declared.words.Act.{Act}
 use Rattle.peer_machine.specs.declared.words.Act.TheVariants.{Nothing, Serve, Discard, Pass, Close, Request, Answer, AnswerAndClose}
 use Rattle.peer_machine.specs.declared.words.Event.{Event as LinkEvent}
 use Rattle.peer_machine.specs.Messages.{command_of, details, request_header, request_text}
-use Rattle.peer_machine.specs.Rules.{noted}
 use Rattle.peer_machine.specs.Step.{PeerParts, link_at, sent, is_request as asks}
 use Rattle.agent_core.specs.declared.events.Input.{Input}
 use Rattle.agent_core.specs.declared.events.Output.{Output}

@@ -90,7 +90,7 @@ pub struct TcpOut<R> {
     rt: R,
     stream: TcpStream,
     waker: Option<Waker>,
-    /// Whether several messages went out since the last rest.
+    /// Whether a piece that is taken for several messages went out since the last rest.
     crowded: bool,
     faults: u64,
 }
@@ -117,8 +117,8 @@ impl<R: Wait + rt::Clock> LinkOut for TcpOut<R> {
         }
     }
 
-    /// Pauses until it is woken, and for a hundredth of a second at most. Behind several messages it pauses for a moment
-    /// instead, so that more gather and go out in one piece.
+    /// Pauses until it is woken, and for a hundredth of a second at most. Behind a piece that is taken for several messages
+    /// it pauses for a moment instead, so that more gather and go out in one piece.
     fn rest(&mut self) {
         let longest = Duration::from_millis(REST);
         if self.crowded {
