@@ -6,7 +6,8 @@
  * 5.2). One that isn't answered within two seconds is counted as lost and takes its place anew. Where PID is given, the
  * processor time of that process over the run is told, too, and the run ends within a second after that process: its figures
  * are then those up to the last full second before. Where RATE is given, at most so many are sent a second. One line a second
- * tells the answers of that second, and the processor time of each of them.
+ * tells the answers of that second, the processor time of each of them, and how many hundredths of the processors' time the
+ * kernel counted as stolen by the host of a virtual machine.
  *
  * cc -O2 -o load load.c -lcrypto
  */
@@ -61,13 +62,26 @@ static int64_t processor_time(const char *pid) {
     return state == 'Z' || state == 'X' ? -1 : (user + kernel) * (1000000 / sysconf(_SC_CLK_TCK));
 }
 
-/* How far the run is. */
+/* How far the run is, and what the kernel has counted of all processors: their time, and what of it was stolen. */
 struct mark {
-    int64_t moment, answered, accepted, used;
+    int64_t moment, answered, accepted, used, all, stolen;
 };
 
 static struct mark mark_now(const char *process) {
-    return (struct mark){now(), answered, accepted, process ? processor_time(process) : 0};
+    struct mark mark = {now(), answered, accepted, process ? processor_time(process) : 0, 0, 0};
+    FILE *file = fopen("/proc/stat", "r");
+    long long time;
+    if (file && fscanf(file, "cpu") == 0)
+        for (int i = 0; i < 8 && fscanf(file, "%lld", &time) == 1; i++) mark.all += mark.stolen = time;
+    if (file) fclose(file);
+    return mark;
+}
+
+/* Tells the second that ended. */
+static void tell_second(const struct mark *from, const struct mark *to) {
+    double answers = (double)(to->answered - from->answered), all = (double)(to->all - from->all);
+    printf("second %.0f %.1f %.1f\n", answers, answers > 0 ? (double)(to->used - from->used) / answers : 0,
+           all > 0 ? 100 * (double)(to->stolen - from->stolen) / all : 0);
 }
 
 static void digest(const uint8_t *first, size_t first_length, const uint8_t *second, size_t second_length, uint8_t *out) {
@@ -178,7 +192,7 @@ int main(int argc, char **argv) {
     rate = argc > 7 ? atoll(argv[7]) : 0;
     begin = now();
     int64_t end = begin + atoll(argv[5]) * 1000000, second = begin + 1000000;
-    struct mark mark = {begin, 0, 0, used};
+    struct mark mark = mark_now(process);
     for (int d = 0; d < count; d++) polled[d] = (struct pollfd){.fd = doors[d].socket, .events = POLLIN};
     for (int64_t moment = begin; moment < end && !ended; moment = now()) {
         int held = send_held(count, moment);
@@ -189,8 +203,7 @@ int main(int argc, char **argv) {
             struct mark next = mark_now(process);
             ended = next.used < 0;
             if (ended) break;
-            int64_t answers = next.answered - mark.answered;
-            printf("second %lld %.1f\n", (long long)answers, answers ? (double)(next.used - mark.used) / (double)answers : 0);
+            tell_second(&mark, &next);
             mark = next;
             second += 1000000;
             send_lost_anew(count, moment);
