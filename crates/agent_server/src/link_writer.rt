@@ -68,11 +68,22 @@ fn send_each<O: LinkOut>(link: &mut O, outputs: &[Output]) -> bool
     true
 }
 
+/// How many octets the messages among these have, for the room that they take.
+fn size(outputs: &[Output]) -> usize {
+    let mut size: usize = 0;
+    for output in outputs {
+        if let Output::Send { octets } = output {
+            size = size.saturating_add(octets.len());
+        }
+    }
+    size
+}
+
 /// The messages among these, one behind another.
 fn joined(alloc: Global, outputs: &[Output]) -> Result<Vec<u8>, AllocError>
     ensures { IfOk result (λ piece. piece.items ≡ octets_in outputs.now) }
 {
-    let mut piece = Vec::new(alloc);
+    let mut piece = Vec::with_capacity(alloc, size(outputs))?;
     for output in outputs {
         if let Output::Send { octets } = output {
             piece.extend_from_slice(octets.as_slice())?;

@@ -2,7 +2,9 @@
 #![tactic(auto)]
 
 mod entry;
+mod garbage;
 mod key;
+mod row;
 mod sends;
 mod stores;
 mod table;

@@ -5,7 +5,7 @@ ghost use Rattle.std.specs.List.{AllByRecursion};
 ghost use Rattle.std.specs.Iterator.{YieldsFirstRef, item_count};
 ghost use Rattle.pending_table.specs.Table as parts;
 
-use crate::stores::Row;
+use crate::row::Row;
 use std::collections::btree_map::Values;
 use std::marker::Model;
 use wire_core::Octets;
@@ -46,7 +46,7 @@ impl<'a> Iterator for Sends<'a> {
     ghost remaining = { item_count (λ s. s) };
 
     fn next(&mut self) -> Option<&'a Octets> {
-        let (_, entry) = self.rows.next()?;
-        entry.sent()
+        let row = self.rows.next()?;
+        row.entry().sent()
     }
 }

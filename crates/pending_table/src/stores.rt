@@ -9,7 +9,9 @@ ghost use Rattle.pending_table.specs.Merged.{Pairs, rows, renumbered};
 ghost use Rattle.pending_table.specs.Relinked.{with_number, HasOtherNumber, LeadsTo};
 ghost use Rattle.pending_table.specs.Stores.{row_at, settled_at, waiting_at, by_key, by_number, same_number, is_live, ends_before, is_first_dead, waits, all, drafts, IsKept, IsWhole, KeepsRest, HasSameRows, HasSameIndexes, HasSameTimes, HasSameList, HasRoom, IsPrepared, IsDraft, CanJoin, KeepsSettled};
 
+use crate::garbage::Garbage;
 use crate::key::SharedKey;
+use crate::row::Row;
 use crate::{Answer, Entry, Key};
 use indexmap::IndexMap;
 use std::alloc::Global;
@@ -17,9 +19,6 @@ use std::collections::btree_map::Values;
 use std::collections::{BTreeMap, VecDeque};
 use std::hash::RandomState;
 use wire_core::NoMemory;
-
-/// An entry beside its key.
-pub(crate) type Row = (SharedKey, Entry);
 
 /// Where the row of a key stands: among those that wait, by its serial number, or among the settled ones, by how many were settled
 /// before it.
@@ -119,7 +118,7 @@ impl Stores {
         ensures { option_copied result ≡ by_key self.now key.now }
     {
         match self.hinted_by_key(key) {
-            Some(row) if *row.0.get() == *key => Some(row),
+            Some(row) if *row.key() == *key => Some(row),
             _ => None,
         }
     }
@@ -139,7 +138,7 @@ impl Stores {
         ensures { option_copied result ≡ by_number self.now link number }
     {
         match self.hinted_by_number(Number { link, number }) {
-            Some(row) if row.1.has_number(link, number) => Some(row),
+            Some(row) if row.entry().has_number(link, number) => Some(row),
             _ => None,
         }
     }
@@ -148,7 +147,7 @@ impl Stores {
     pub(crate) fn is_live(&self, row: &Row, moment: u64) -> bool
         ensures { result ≡ is_live self.now moment row.now }
     {
-        row.1.is_live(self.patience, self.retention, moment)
+        row.entry().is_live(self.patience, self.retention, moment)
     }
 
     /// How many rows that wait are dead.
@@ -251,26 +250,24 @@ impl Stores {
         ensures dropped { waits self.new ≡ drop 1 (waits self.old) }
         ensures settled { self.new.settled.items ≡ self.old.settled.items }
     {
-        if let Some((_, (key, entry))) = self.waiting.pop_first() {
-            self.keys.swap_remove(key.get());
-            self.numbers.swap_remove(&Number {
-                link: entry.link,
-                number: entry.number,
-            });
+        if let Some((_, row)) = self.waiting.pop_first() {
+            self.keys.swap_remove(row.key());
+            self.numbers.swap_remove(&row.number());
         }
     }
 
     /// Drops the first settled row.
-    fn drop_settled(&mut self)
+    fn drop_settled(&mut self, garbage: &mut Garbage)
         requires { IsKept self.old }
         ensures kept { IsKept self.new }
         ensures rest { KeepsRest self.old self.new }
         ensures dropped { self.new.settled.items ≡ drop 1 self.old.settled.items }
         ensures waiting { waits self.new ≡ waits self.old }
     {
-        if let Some((_, (key, _))) = self.settled.pop_front() {
-            self.keys.swap_remove(key.get());
+        if let Some((_, row)) = self.settled.pop_front() {
+            self.keys.swap_remove(row.key());
             self.dropped += 1;
+            garbage.take_row(row);
         }
     }
 
@@ -298,7 +295,7 @@ impl Stores {
     }
 
     /// Drops the dead ones of the settled rows.
-    pub(crate) fn purge_settled(&mut self, moment: u64)
+    pub(crate) fn purge_settled(&mut self, moment: u64, garbage: &mut Garbage)
         requires { IsKept self.old }
         ensures kept { IsKept self.new }
         ensures rest { KeepsRest self.old self.new }
@@ -306,7 +303,7 @@ impl Stores {
         ensures waiting { waits self.new ≡ waits self.old }
     {
         while self.is_first_settled_dead(moment) {
-            self.drop_settled();
+            self.drop_settled(garbage);
         }
     }
 
@@ -326,33 +323,33 @@ impl Stores {
     }
 
     /// Puts in a row that waits, under the next serial number, but not yet among those that wait.
-    fn draft(&mut self, key: SharedKey, entry: Entry) -> Result<(), NoMemory>
+    fn draft(&mut self, row: Row) -> Result<(), NoMemory>
         requires kept { IsKept self.old }
         requires whole { IsWhole self.old }
         ensures kept { IsKept self.new }
         ensures rest { HasSameIndexes self.old self.new }
         ensures waits { waits self.new ≡ waits self.old }
-        ensures ok { OnOk result (drafts self.new ≡ (self.old.next, (key, entry)) ∷ []) }
+        ensures ok { OnOk result (drafts self.new ≡ (self.old.next, row) ∷ []) }
         ensures err { OnErr result (IsWhole self.new) }
     {
-        self.waiting.insert(self.next, (key, entry))?;
+        self.waiting.insert(self.next, row)?;
         Ok(())
     }
 
     /// Puts in the draft of a row that waits and drops the dead rows. After an `Err` the rows are as they were.
-    fn prepare(&mut self, key: SharedKey, entry: Entry, moment: u64) -> Result<(), NoMemory>
+    fn prepare(&mut self, row: Row, moment: u64, garbage: &mut Garbage) -> Result<(), NoMemory>
         requires kept { IsKept self.old }
         requires whole { IsWhole self.old }
         ensures kept { IsKept self.new }
         ensures times { HasSameTimes self.old self.new }
         ensures next { self.new.next ≡ self.old.next }
-        ensures ok { OnOk result (IsPrepared self.old moment (key, entry) self.new) }
+        ensures ok { OnOk result (IsPrepared self.old moment row self.new) }
         ensures err { OnErr result (HasSameList self.old self.new) }
     {
         self.reserve()?;
-        self.draft(key, entry)?;
+        self.draft(row)?;
         self.purge_waiting(moment);
-        self.purge_settled(moment);
+        self.purge_settled(moment, garbage);
         Ok(())
     }
 
@@ -375,7 +372,13 @@ impl Stores {
     }
 
     /// Drops the dead rows and puts in one that waits. After an `Err` the rows are as they were.
-    pub(crate) fn admit(&mut self, key: Key, entry: Entry, moment: u64) -> Result<(), NoMemory>
+    pub(crate) fn admit(
+        &mut self,
+        key: Key,
+        entry: Entry,
+        moment: u64,
+        garbage: &mut Garbage,
+    ) -> Result<(), NoMemory>
         requires kept { IsKept self.old }
         requires whole { IsWhole self.old }
         requires fits { CanJoin self.old moment (key, entry) }
@@ -389,18 +392,16 @@ impl Stores {
         if self.next == u64::MAX {
             return Err(NoMemory);
         }
-        let number = Number {
-            link: entry.link,
-            number: entry.number,
-        };
         let key = SharedKey::new(self.alloc, key)?;
-        self.prepare(key.share()?, entry, moment)?;
+        let row = Row::new(self.alloc, key.share()?, entry)?;
+        let number = row.number();
+        self.prepare(row, moment, garbage)?;
         self.enter(key, number);
         Ok(())
     }
 
     /// Gives the row that waits for the answer with this number on this link its answer. It goes among the settled ones.
-    pub(crate) fn settle(&mut self, link: u64, number: u32, answer: Answer)
+    pub(crate) fn settle(&mut self, link: u64, number: u32, answer: Answer, garbage: &mut Garbage)
         requires kept { IsKept self.old }
         requires whole { IsWhole self.old }
         requires found { IsSome (by_number self.old link number) }
@@ -417,18 +418,18 @@ impl Stores {
         let Some(serial) = self.numbers.swap_remove(&Number { link, number }) else {
             return;
         };
-        let Some((key, mut entry)) = self.waiting.remove(&serial) else {
+        let Some(mut row) = self.waiting.remove(&serial) else {
             return;
         };
-        entry.answer = answer;
         // This says that the count is the length of the list.
         let _ = self.settled.as_slices();
         let count = self.dropped + self.settled.len() as u64;
-        let Some(place) = self.keys.get_mut(key.get()) else {
+        let Some(place) = self.keys.get_mut(row.key()) else {
             return;
         };
         *place = Place::Settled { count };
-        self.settled.push_back_reserved((serial, (key, entry)));
+        garbage.take_sent(row.set_answer(answer));
+        self.settled.push_back_reserved((serial, row));
     }
 
     /// Gives the live rows that wait this link and the numbers from 0 on, in their order.
@@ -462,7 +463,7 @@ fn renumber(waiting: &mut BTreeMap<u64, Row>, patience: u64, retention: u64, lin
     let mut next: u32 = 0;
     // All rows stay. `retain` lends each of them in turn, to be written.
     waiting.retain(|_, row: &mut Row| {
-        let anew = row.1.is_live_waiting(patience, retention, moment);
+        let anew = row.entry().is_live_waiting(patience, retention, moment);
         next = number_if(anew, row, link, next);
         true
     });
@@ -476,8 +477,7 @@ fn number_if(anew: bool, row: &mut Row, link: u64, number: u32) -> u32
     if !anew {
         return number;
     }
-    row.1.link = link;
-    row.1.number = number;
+    row.set_number(link, number);
     // After the last number there is no further row.
     number.wrapping_add(1)
 }
@@ -490,11 +490,7 @@ fn refill(numbers: &mut IndexMap<Number, u64, RandomState>, waiting: &BTreeMap<u
     ensures { LeadsTo waiting.now.entries numbers.new }
 {
     for (serial, row) in waiting.iter() {
-        let number = Number {
-            link: row.1.link,
-            number: row.1.number,
-        };
         // There is room for it, so it is not refused.
-        let _ = numbers.insert(number, *serial);
+        let _ = numbers.insert(row.number(), *serial);
     }
 }

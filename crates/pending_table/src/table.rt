@@ -4,7 +4,9 @@ ghost use Rattle.std.specs.Prelude.{◌≡◌, ◌≢◌, ◌==◌, ◌<◌, ◌
 ghost use Rattle.std.specs.Bool.{OnFalse};
 ghost use Rattle.pending_table.specs.Table as parts;
 
-use crate::stores::{Row, Stores};
+use crate::garbage::Garbage;
+use crate::row::Row;
+use crate::stores::Stores;
 use crate::{Answer, Entry, Found, Key, Sends};
 use session_carrier::Kept;
 use std::alloc::Global;
@@ -17,6 +19,7 @@ use wire_core::{NoMemory, Octets};
 pub struct Table {
     stores: Stores,
     capacity: u32,
+    garbage: Garbage,
 }
 
 impl Model for Table {
@@ -45,7 +48,12 @@ impl Table {
         ensures { IfOk result (λ t. t ≡ record { capacity = capacity; patience = patience; retention = retention; entries = [] }) }
     {
         let stores = Stores::new(alloc, random, capacity, patience, retention)?;
-        Ok(Table { stores, capacity })
+        let garbage = Garbage::new(alloc)?;
+        Ok(Table {
+            stores,
+            capacity,
+            garbage,
+        })
     }
 
     /// The live entry with this key.
@@ -64,7 +72,7 @@ impl Table {
     {
         match self.row_of_key(key, moment) {
             None => Found::New,
-            Some((_, entry)) => entry.found(),
+            Some(row) => row.entry().found(),
         }
     }
 
@@ -109,7 +117,7 @@ impl Table {
     {
         match self.row_of_number(link, number, moment) {
             None => None,
-            Some((_, entry)) => Some(entry),
+            Some(row) => Some(row.entry()),
         }
     }
 
@@ -119,7 +127,7 @@ impl Table {
     {
         match self.stores.nth_waiting(k as usize, moment) {
             None => None,
-            Some((_, entry)) => entry.sent(),
+            Some(row) => row.entry().sent(),
         }
     }
 
@@ -149,7 +157,8 @@ impl Table {
         ensures err { OnErr result (self.new ≡ self.old) }
     {
         let entry = Entry::waiting(&key, link, number, kept, sent, moment);
-        self.stores.admit(key, entry, moment)
+        self.garbage.free_row();
+        self.stores.admit(key, entry, moment, &mut self.garbage)
     }
 
     /// Gives the live request that waits for the answer with this number on this link its `reply`, or silence.
@@ -158,8 +167,9 @@ impl Table {
         requires in_order { All (λ r. parts.IsBy moment r.1) (parts.live self.old moment) }
         ensures { self.new ≡ record self.old { entries = parts.settled self.old link number moment reply } }
     {
+        self.garbage.free_reply();
         let answer = Answer::given(moment, reply);
-        self.stores.settle(link, number, answer);
+        self.stores.settle(link, number, answer, &mut self.garbage);
     }
 
     /// Gives the live requests that wait this link and the numbers 0, 1, 2 and so on, in the order of taking.
@@ -175,6 +185,6 @@ impl Table {
         ensures { self.new ≡ record self.old { entries = parts.live self.old moment } }
     {
         self.stores.purge_waiting(moment);
-        self.stores.purge_settled(moment);
+        self.stores.purge_settled(moment, &mut self.garbage);
     }
 }

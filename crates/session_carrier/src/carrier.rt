@@ -63,7 +63,8 @@ pub fn class_of(alloc: Global, session: &[u8]) -> Result<Octets, CarrierFault>
     if session.len() > LONGEST_VALUE - PREFIX.len() {
         return Err(CarrierFault::TooLong);
     }
-    let mut class = Vec::from_slice(alloc, PREFIX)?;
+    let mut class = Vec::with_capacity(alloc, PREFIX.len() + session.len())?;
+    class.extend_from_slice(PREFIX)?;
     class.extend_from_slice(session)?;
     Ok(Octets::from_vec(class))
 }
@@ -86,7 +87,8 @@ pub fn state_of(
     if carried > LONGEST_VALUE - PREFIX.len() - 2 {
         return Err(CarrierFault::TooLong);
     }
-    let mut state = Vec::from_slice(alloc, PREFIX)?;
+    let mut state = Vec::with_capacity(alloc, PREFIX.len() + carried + 2)?;
+    state.extend_from_slice(PREFIX)?;
     state.extend_from_slice(host)?;
     state.push(b'/')?;
     state.extend_from_slice(realm)?;

@@ -14,7 +14,7 @@ pub returns-clause-kept : goal.returns-clause-kept
 returns-clause-kept c =
     let s = c.args.self.now in
     let below = whole-below s.next s.waiting.entries c.requires.whole in
-    let row : Row = (c.args.key, c.args.entry) in
+    let row : Row = c.args.row in
     let last : c.insert.new.self.entries ≡ s.waiting.entries ++ (s.next, row) ∷ [] = c.in_ok-insert.ensures.entries ∙ insert-last s.next row s.waiting.entries below in
     kept-waiting s c.insert.new.self c.requires.kept
     (ap (filter (λ p. nat_lt p.0 s.next)) last ∙ waits-draft s.next row s.waiting.entries)
@@ -24,7 +24,7 @@ pub returns-clause-waits : goal.returns-clause-waits
 returns-clause-waits c =
     let s = c.args.self.now in
     let below = whole-below s.next s.waiting.entries c.requires.whole in
-    let row : Row = (c.args.key, c.args.entry) in
+    let row : Row = c.args.row in
     let last : c.insert.new.self.entries ≡ s.waiting.entries ++ (s.next, row) ∷ [] = c.in_ok-insert.ensures.entries ∙ insert-last s.next row s.waiting.entries below in
     ap (filter (λ p. nat_lt p.0 s.next)) last ∙ waits-draft s.next row s.waiting.entries
 
@@ -32,6 +32,6 @@ pub returns-clause-ok : goal.returns-clause-ok
 returns-clause-ok c =
     let s = c.args.self.now in
     let below = whole-below s.next s.waiting.entries c.requires.whole in
-    let row : Row = (c.args.key, c.args.entry) in
+    let row : Row = c.args.row in
     let last : c.insert.new.self.entries ≡ s.waiting.entries ++ (s.next, row) ∷ [] = c.in_ok-insert.ensures.entries ∙ insert-last s.next row s.waiting.entries below in
     ap (filter (λ p. not (nat_lt p.0 s.next))) last ∙ drafts-draft s.next row s.waiting.entries below

@@ -16,7 +16,7 @@ returns-in-Some-clause-kept c =
     let s = c.args.self.now in
     let h = c.requires.kept in
     let store = c.pop_first.new.self.entries in
-    let first : Held = (c.in-Some.field-0-0, (c.in-Some.key, c.in-Some.entry)) in
+    let first : Held = (c.in-Some.field-0-0, c.in-Some.row) in
     let split : s.waiting.entries ≡ first ∷ store = c.in-Some.ensures.removal in
     let pairs = subst (Pairs (λ p q. p.0 < q.0)) split h.rising in
     let waits_first : nat_lt first.0 s.next ≡ true =
@@ -28,13 +28,15 @@ returns-in-Some-clause-kept c =
     let numbers = get same_number s.numbers in
     let keyed = subst (AllByRecursion (λ p. keys p.1.0 ≡ Some (Waiting p.0))) parts h.by_key in
     let numbered = subst (AllByRecursion (λ p. numbers (number_of p.1) ≡ Some p.0)) parts h.by_number in
-    let without_key : (r : Key) → get same_key c.swap_remove.new.self r ≡ cond (same_key c.in-Some.key r) None (get same_key s.keys r) =
-    subst (λ k. (r : Key) → get same_key c.swap_remove.new.self r ≡ cond (same_key k r) None (get same_key s.keys r)) c.get.ensures c.swap_remove.ensures.updates.0 in
+    let without_key : (r : Key) → get same_key c.swap_remove.new.self r ≡ cond (same_key c.in-Some.row.0 r) None (get same_key s.keys r) =
+    subst (λ k. (r : Key) → get same_key c.swap_remove.new.self r ≡ cond (same_key k r) None (get same_key s.keys r)) c.key.ensures c.swap_remove.ensures.updates.0 in
+    let without_number : (n : Number) → get same_number c.swap_remove-in-Some.new.self n ≡ cond (same_number (number_of c.in-Some.row) n) None (get same_number s.numbers n) =
+    subst (λ k. (n : Number) → get same_number c.swap_remove-in-Some.new.self n ≡ cond (same_number k n) None (get same_number s.numbers n)) c.number.ensures c.swap_remove-in-Some.ensures.updates.0 in
     let fewer = one_less c.swap_remove-in-Some.result (hash_map_len c.swap_remove-in-Some.new.self) (hash_map_len s.numbers) c.swap_remove-in-Some.ensures.len in
     record {
-      by_key = keyed-waiting keys (get same_key c.swap_remove.new.self) c.in-Some.key without_key first.0 keyed.0 later above keyed.1;
-      by_count = counted-waiting keys (get same_key c.swap_remove.new.self) c.in-Some.key without_key first.0 keyed.0 s.dropped s.settled.items h.by_count;
-      by_number = numbered-waiting numbers (get same_number c.swap_remove-in-Some.new.self) first c.swap_remove-in-Some.ensures.updates.0 numbered.0 later above numbered.1;
+      by_key = keyed-waiting keys (get same_key c.swap_remove.new.self) c.in-Some.row.0 without_key first.0 keyed.0 later above keyed.1;
+      by_count = counted-waiting keys (get same_key c.swap_remove.new.self) c.in-Some.row.0 without_key first.0 keyed.0 s.dropped s.settled.items h.by_count;
+      by_number = numbered-waiting numbers (get same_number c.swap_remove-in-Some.new.self) first without_number numbered.0 later above numbered.1;
       waiting = (subst (AllByRecursion (λ p. is_waiting p.1.1.answer ≡ true)) parts h.waiting).1;
       answered = h.answered;
       rising = pairs.1;
@@ -42,7 +44,7 @@ returns-in-Some-clause-kept c =
       aged = (subst (λ ps. Pairs (ends_before s) (rows ps)) parts h.aged).1;
       cooled = h.cooled;
       counted = omega (arith, h.counted, ap length parts);
-      unused = unused-waiting numbers (get same_number c.swap_remove-in-Some.new.self) first later c.swap_remove-in-Some.ensures.updates.0
+      unused = unused-waiting numbers (get same_number c.swap_remove-in-Some.new.self) first later without_number
           (subst (λ ps. (n : Number) → AllByRecursion (λ q. same_number (number_of q.1) n ≡ false) ps → numbers n ≡ None) parts h.unused);
       numbered = omega (arith, h.numbered, ap length parts, fewer);
       room = omega (arith, h.room, ap length parts);
@@ -52,7 +54,7 @@ pub returns-in-Some-clause-rest : goal.returns-in-Some-clause-rest
 returns-in-Some-clause-rest c =
     let s = c.args.self.now in
     let store = c.pop_first.new.self.entries in
-    let first : Held = (c.in-Some.field-0-0, (c.in-Some.key, c.in-Some.entry)) in
+    let first : Held = (c.in-Some.field-0-0, c.in-Some.row) in
     let split : s.waiting.entries ≡ first ∷ store = c.in-Some.ensures.removal in
     let pairs = subst (Pairs (λ p q. p.0 < q.0)) split c.requires.kept.rising in
     let waits_first : nat_lt first.0 s.next ≡ true =
@@ -73,7 +75,7 @@ pub returns-in-Some-clause-dropped : goal.returns-in-Some-clause-dropped
 returns-in-Some-clause-dropped c =
     let s = c.args.self.now in
     let store = c.pop_first.new.self.entries in
-    let first : Held = (c.in-Some.field-0-0, (c.in-Some.key, c.in-Some.entry)) in
+    let first : Held = (c.in-Some.field-0-0, c.in-Some.row) in
     let split : s.waiting.entries ≡ first ∷ store = c.in-Some.ensures.removal in
     let pairs = subst (Pairs (λ p q. p.0 < q.0)) split c.requires.kept.rising in
     let waits_first : nat_lt first.0 s.next ≡ true =

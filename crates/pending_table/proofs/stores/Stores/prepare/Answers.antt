@@ -1,5 +1,4 @@
 use Rattle.std.proofs.Common.{◌≡◌, ◌∙◌, ap}
-use Rattle.pending_table.specs.Table.{Row}
 use Rattle.pending_table.specs.Stores.{HasSameList}
 use Rattle.pending_table.proofs.Preparing.{on_err, list-room, same_waits, same_all, prepared}
 use Rattle.pending_table.proofs.stores.Stores.prepare.Goals as goal
@@ -25,8 +24,7 @@ returns-in_err-draft-clause-err c =
 
 pub returns-clause-ok : goal.returns-clause-ok
 returns-clause-ok c =
-    let r : Row = (c.args.key, c.args.entry) in
-    prepared c.args.self.now c.reserve.new.self c.draft.new.self c.purge_waiting.new.self c.purge_settled.new.self c.args.moment r
+    prepared c.args.self.now c.reserve.new.self c.draft.new.self c.purge_waiting.new.self c.purge_settled.new.self c.args.moment c.args.row
     c.reserve.ensures.rows c.in_ok-reserve.ensures.room c.draft.ensures.rest c.draft.ensures.waits c.in_ok-draft.ensures.ok
     c.purge_waiting.ensures.rest c.purge_waiting.ensures.live c.purge_waiting.ensures.settled
     c.purge_settled.ensures.rest c.purge_settled.ensures.live c.purge_settled.ensures.waiting

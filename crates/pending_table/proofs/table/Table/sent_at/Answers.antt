@@ -14,6 +14,6 @@ pub returns-in-Some : goal.returns-in-Some
 returns-in-Some c =
     let s = c.self.inside.stores in
     rw (← c.self.view_is)
-    (c.sent.ensures
+    (c.sent.ensures ∙ ap (λ e. parts.sent_of e.answer) c.entry.ensures
     ∙ sym (ap (λ rs. option_and_then (λ r. parts.sent_of r.1.answer) (slice_get rs c.args.k)) (waiting-values s c.self.invariant.0 c.self.invariant.1 c.args.moment)
     ∙ ap (option_and_then (λ r. parts.sent_of r.1.answer)) (sym c.nth_waiting.ensures ∙ ap option_copied c.in-Some.is)))
