@@ -43,7 +43,36 @@ pub(crate) fn draw<D: Desk>(top: &Top<D>, seat: &mut Place<D>) -> u64
     top.fetch_add::<Draw>(seat, TICKET, 1)
 }
 
-/// Waits until the ticket is due. It yields some times, and then sleeps until a turn is over, as one of so many sleepers.
+/// Lets others run until a turn is over, perhaps: yields some times, and then sleeps, as one of so many sleepers.
+fn pause<D: Desk, R: Wait>(rt: &R, top: &Top<D>, turn: u64, yields: &mut u32, sleepers: &AtomicU32)
+    requires { top.now.table_id.words ≡ 2 }
+{
+    if *yields < YIELDS {
+        *yields += 1;
+        thread::yield_now();
+    } else {
+        sleepers.fetch_add(1, Ordering::SeqCst);
+        top.park(rt, TURN, (turn % 0x1_0000_0000) as u32);
+        sleepers.fetch_sub(1, Ordering::SeqCst);
+    }
+}
+
+/// Waits until no ticket seems to be out, so that the one drawn next is due at once. Were tickets drawn by all that wait,
+/// each turn would go to another thread, in their order, and none would get on while one of them isn't running.
+pub(crate) fn hold_back<D: Desk, R: Wait>(rt: &R, top: &Top<D>, sleepers: &AtomicU32)
+    requires { top.now.table_id.words ≡ 2 }
+{
+    let mut yields = 0u32;
+    for _ in rt.forever() {
+        let turn = top.peek(TURN);
+        if top.peek(TICKET) == turn {
+            return;
+        }
+        pause(rt, top, turn, &mut yields, sleepers);
+    }
+}
+
+/// Waits until the ticket is due.
 pub(crate) fn wait<D: Desk, R: Wait>(
     rt: &R,
     top: &Top<D>,
@@ -63,14 +92,7 @@ pub(crate) fn wait<D: Desk, R: Wait>(
         if turn == ticket {
             return;
         }
-        if yields < YIELDS {
-            yields += 1;
-            thread::yield_now();
-        } else {
-            sleepers.fetch_add(1, Ordering::SeqCst);
-            top.park(rt, TURN, (turn % 0x1_0000_0000) as u32);
-            sleepers.fetch_sub(1, Ordering::SeqCst);
-        }
+        pause(rt, top, turn, &mut yields, sleepers);
     }
     unreachable!()
 }

@@ -7,7 +7,7 @@ ghost use Rattle.turnstile.specs.Passes.{known, table_of};
 use crate::desk::Desk;
 use crate::order::{Both, Cut, Order};
 use crate::pass::{Pass, PassOf, Turns, TurnsOf, Unstarted};
-use crate::steps::{draw, finish, learn, raise, serve, wait, wake};
+use crate::steps::{draw, finish, hold_back, learn, raise, serve, wait, wake};
 use crate::view::View;
 use atomic_table::Table;
 use std::alloc::Global;
@@ -74,6 +74,7 @@ impl<D: Desk> Turnstile<D> {
         ensures stood { (base : D.Base) → Carries D.stands (known pass.old) base → (desk : D) × D.stands desk base (plain (known pass.new).seen) }
     {
         let top = &self.table.shared;
+        hold_back(rt, top, &self.sleepers);
         let ticket = draw(top, &mut pass.seat);
         wait(rt, top, &mut pass.seat, ticket, &self.sleepers);
         let outcome = serve(top, &mut pass.seat, ask);
