@@ -4,28 +4,24 @@ use super::octets::{
     ACCEPTED, AGAIN, CAPABILITIES, CAPABLE, LOGIN, OTHER_LOGIN, REJECT, REJECTED, SECOND_ACCEPTED,
     SECOND_AGAIN, SECOND_REJECTED, SUCCESS, base, datagram, message,
 };
-use super::runs::{Hears, Play, Ran, Says, heard, run};
+use super::runs::{
+    ASKED, ASKED_TWICE, GREETED, Play, REPLIED, Ran, SERVES, SERVING, Says, heard, run,
+};
 use super::waiting::WaitingOut;
 use agent_status::Status;
 use std::alloc::Global;
 use std::test::Fail;
 use wire_core::Octets;
 
-/// What happens in these runs: a link serves, a request was sent on it, a second one, a request was sent again on the second
-/// link, on the third, and a reply was handed out.
-const SERVING: u64 = 1;
+/// What happens in these runs besides: the agent's capabilities are sent on the second link, a request is sent again on it,
+/// and both on the third.
+const GREETED_SECOND: u64 = 1 << 5;
 
-const ASKED: u64 = 1 << 1;
+const AGAIN_ON_SECOND: u64 = 1 << 6;
 
-const ASKED_TWICE: u64 = 1 << 2;
+const GREETED_THIRD: u64 = 1 << 7;
 
-const AGAIN_ON_SECOND: u64 = 1 << 3;
-
-const AGAIN_ON_THIRD: u64 = 1 << 4;
-
-const REPLIED: u64 = 1 << 5;
-
-const OPENED_SECOND: u64 = 1 << 6;
+const AGAIN_ON_THIRD: u64 = 1 << 8;
 
 fn has_sent(link: &WaitingOut, number: usize, message: &Octets) -> bool {
     link.sent(number) == Some(message)
@@ -47,16 +43,16 @@ fn open_twice(play: &mut Play, first: First) -> Result<(), Fail> {
         First::Ends => play.link(&[heard(Says::End, 0)], &[]),
     };
     opened?;
-    play.link(&[], &[OPENED_SECOND])
+    play.link(&[], &[GREETED_SECOND])
 }
 
 #[test]
 fn after_a_failed_link_another_is_dialled(rt: HostRuntime) -> Result<(), Fail> {
     for first in [First::CannotSend, First::CannotReceive, First::Ends] {
-        let mut play = Play::new(rt, OPENED_SECOND)?;
+        let mut play = Play::new(rt, GREETED_SECOND)?;
         open_twice(&mut play, first)?;
         let ran = run(rt, play)?;
-        assert!(rt; ran.raised == OPENED_SECOND);
+        assert!(rt; ran.raised == GREETED_SECOND);
         assert!(rt; ran.status == Status::Done);
         assert!(rt; ran.trail.links.as_slice().len() == 2);
     }
@@ -67,23 +63,13 @@ fn after_a_failed_link_another_is_dialled(rt: HostRuntime) -> Result<(), Fail> {
 fn reopen(alloc: Global, play: &mut Play) -> Result<(), Fail> {
     play.auth.comes(alloc, LOGIN, SERVING)?;
     play.auth.twin_raises.push(REPLIED)?;
+    play.link(&[SERVES, heard(Says::End, ASKED)], &[GREETED, ASKED])?;
     play.link(
         &[
-            Hears {
-                after: 0,
-                says: Says::Base(&CAPABLE, 0),
-                raises: SERVING,
-            },
-            heard(Says::End, ASKED),
-        ],
-        &[0, ASKED],
-    )?;
-    play.link(
-        &[
-            heard(Says::Base(&CAPABLE, 2), 0),
+            heard(Says::Base(&CAPABLE, 2), GREETED_SECOND),
             heard(Says::Message(&ACCEPTED, 0, 1), AGAIN_ON_SECOND),
         ],
-        &[0, AGAIN_ON_SECOND],
+        &[GREETED_SECOND, AGAIN_ON_SECOND],
     )
 }
 
@@ -124,30 +110,26 @@ fn reopen_twice(alloc: Global, play: &mut Play) -> Result<(), Fail> {
     play.auth.twin_raises.extend_from_slice(&[0, REPLIED])?;
     play.link(
         &[
-            Hears {
-                after: 0,
-                says: Says::Base(&CAPABLE, 0),
-                raises: SERVING,
-            },
+            SERVES,
             heard(Says::Message(&REJECTED, 0, 1), ASKED_TWICE),
             heard(Says::End, 0),
         ],
-        &[0, ASKED, ASKED_TWICE],
+        &[GREETED, ASKED, ASKED_TWICE],
     )?;
     play.link(
         &[
-            heard(Says::Base(&CAPABLE, 3), 0),
+            heard(Says::Base(&CAPABLE, 3), GREETED_SECOND),
             heard(Says::End, AGAIN_ON_SECOND),
         ],
-        &[0, AGAIN_ON_SECOND],
+        &[GREETED_SECOND, AGAIN_ON_SECOND],
     )?;
     play.link(
         &[
-            heard(Says::Base(&CAPABLE, 4), 0),
+            heard(Says::Base(&CAPABLE, 4), GREETED_THIRD),
             heard(Says::Message(&SECOND_ACCEPTED, 1, 2), AGAIN_ON_THIRD),
             heard(Says::Message(&SECOND_REJECTED, 0, 2), 0),
         ],
-        &[0, AGAIN_ON_THIRD],
+        &[GREETED_THIRD, AGAIN_ON_THIRD],
     )
 }
 

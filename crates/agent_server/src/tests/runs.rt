@@ -1,6 +1,6 @@
 //! Runs of the server over devices that wait for one another.
 
-use super::octets::{base, datagram, message, settings};
+use super::octets::{CAPABLE, base, datagram, message, settings};
 use super::waiting::{
     Find, Finds, Look, Post, Script, UNTIL, WaitingClock, WaitingDialer, WaitingIn, WaitingOut,
     WaitingSocket, Word,
@@ -15,6 +15,18 @@ use std::sync::{Arc, Wait};
 use std::test::Fail;
 use std::thread::Threads;
 use wire_devices::ThreadCrew;
+
+/// What happens in a run: the agent's capabilities are sent on a link, the link serves, a request is sent on it, a second
+/// one, and a reply is handed out by the twin of the socket for logins. A test's own bits are above these.
+pub(super) const GREETED: u64 = 1;
+
+pub(super) const SERVING: u64 = 1 << 1;
+
+pub(super) const ASKED: u64 = 1 << 2;
+
+pub(super) const ASKED_TWICE: u64 = 1 << 3;
+
+pub(super) const REPLIED: u64 = 1 << 4;
 
 /// What comes on a link: the first message of the base protocol where so many requests were sent before, a message with these
 /// two numbers, its end, or a fault.
@@ -42,6 +54,14 @@ pub(super) fn heard(says: Says, after: u64) -> Hears {
         raises: 0,
     }
 }
+
+/// The home server's capabilities, once the agent's are sent: what is entered before may go out in one piece with them. The
+/// link serves at the next look.
+pub(super) const SERVES: Hears = Hears {
+    after: GREETED,
+    says: Says::Base(&CAPABLE, 0),
+    raises: SERVING,
+};
 
 fn finds(alloc: Global, says: Says) -> Result<Finds, Fail> {
     match says {

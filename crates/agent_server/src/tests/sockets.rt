@@ -1,33 +1,20 @@
 //! The replies of both sockets, and what becomes of a socket that fails.
 
-use super::octets::{ACCEPTED, BEGUN, CAPABLE, LOGIN, START, STARTED, SUCCESS, datagram};
-use super::runs::{Hears, Play, Ran, Says, heard, run};
+use super::octets::{ACCEPTED, BEGUN, LOGIN, START, STARTED, SUCCESS, datagram};
+use super::runs::{
+    ASKED, ASKED_TWICE, GREETED, Play, REPLIED, Ran, SERVES, SERVING, Says, heard, run,
+};
 use agent_status::Status;
 use std::alloc::Global;
 use std::test::Fail;
 
-/// What happens in these runs: the link serves, a request was sent on it, a second one, the socket for logins handed out a
-/// reply by its twin, that for accounting did, the socket for logins did itself, and that for accounting did.
-const SERVING: u64 = 1;
+/// What happens in these runs besides: the socket for accounting hands out a reply by its twin, the socket for logins does
+/// itself, and that for accounting does.
+const ACCT_REPLIED: u64 = 1 << 5;
 
-const ASKED: u64 = 1 << 1;
+const REPEATED: u64 = 1 << 6;
 
-const ASKED_TWICE: u64 = 1 << 2;
-
-const REPLIED: u64 = 1 << 3;
-
-const ACCT_REPLIED: u64 = 1 << 4;
-
-const REPEATED: u64 = 1 << 5;
-
-const ACCT_REPEATED: u64 = 1 << 6;
-
-/// The home server's capabilities, at once. The link serves at the next look.
-const SERVES: Hears = Hears {
-    after: 0,
-    says: Says::Base(&CAPABLE, 0),
-    raises: SERVING,
-};
+const ACCT_REPEATED: u64 = 1 << 7;
 
 /// A login and the beginning of a session, each of which comes again once it was replied to. The home server answers the
 /// second one first.
@@ -46,7 +33,7 @@ fn ask_both(alloc: Global, play: &mut Play) -> Result<(), Fail> {
             heard(Says::Message(&BEGUN, 1, 2), ASKED_TWICE),
             heard(Says::Message(&ACCEPTED, 0, 1), 0),
         ],
-        &[0, ASKED, ASKED_TWICE],
+        &[GREETED, ASKED, ASKED_TWICE],
     )
 }
 
@@ -83,7 +70,7 @@ fn ask(alloc: Global, play: &mut Play) -> Result<(), Fail> {
     play.auth.twin_raises.push(REPLIED)?;
     play.link(
         &[SERVES, heard(Says::Message(&ACCEPTED, 0, 1), ASKED)],
-        &[0, ASKED],
+        &[GREETED, ASKED],
     )
 }
 
@@ -124,7 +111,7 @@ fn readers_run_beside_each_other(rt: HostRuntime) -> Result<(), Fail> {
     ask(rt.alloc(), &mut play)?;
     play.auth.insist();
     let ran = run(rt, play)?;
-    assert!(rt; ran.raised == SERVING | ASKED | REPLIED | REPEATED);
+    assert!(rt; ran.raised == GREETED | SERVING | ASKED | REPLIED | REPEATED);
     assert!(rt; ran.status == Status::Done);
     Ok(())
 }

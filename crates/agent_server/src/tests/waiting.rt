@@ -22,7 +22,7 @@ pub(super) const UNTIL: u64 = 100;
 pub(super) const IN_VAIN: u64 = 1 << 63;
 
 /// So often the clock is read at most before the run ends, whatever has happened.
-const MOST_READINGS: u32 = 20_000;
+const MOST_READINGS: u32 = 1_000_000;
 
 /// So often a look that insists looks, and after so many it naps.
 const MOST_LOOKS: u32 = 10_000_000;
