@@ -3,7 +3,7 @@
 ghost use Rattle.std.specs.Prelude.{◌≡◌, IfSome, string_bytes};
 ghost use Rattle.transcript.specs.Words.{number_word};
 ghost use Rattle.agent_tool.specs.declared.command.Command.{Command};
-ghost use Rattle.agent_tool.specs.Words.{IsSized, IsSizedCommand, command_named as named_by, command_of as command_of_words, command_with as made_by, count_word, millis_word, peer_at as peer_by, peer_command as peer_by_words, places_of as places_by, port_word, serve_command as serve_by_words, sized_command as sized_by};
+ghost use Rattle.agent_tool.specs.Words.{IsSized, IsSizedCommand, command_named as named_by, command_of as command_of_words, command_with as made_by, count_word, millis_word, peer_at as peer_by, peer_command as peer_by_words, port_word, serve_command as serve_by_words, sized_command as sized_by};
 
 use agent_config::read_address;
 use transcript::number_in;
@@ -223,15 +223,5 @@ pub(crate) fn command_of(words: &[String]) -> Option<Command>
             millis.as_str(),
         ),
         _ => None,
-    }
-}
-
-/// The places of the sockets that these words want. None where they want none.
-pub fn places_of(words: &[String]) -> Option<Places>
-    ensures { result ≡ places_by (command_of_words words.now) }
-{
-    match command_of(words) {
-        Some(Command::Run { places, millis: _ }) => Some(places),
-        Some(Command::Text { .. }) | None => None,
     }
 }

@@ -8,12 +8,14 @@ mod agent;
 mod command;
 mod peer_commands;
 mod server_run;
+mod sockets;
 
 pub use agent::agent;
 use agent_server::{Finish, Pair, Trail, World};
 use agent_status::Status;
+pub use command::Places;
 use command::{Command, TextCommand, command_of};
-pub use command::{Places, places_of};
+pub use sockets::places;
 use std::alloc::Global;
 use std::hash::RandomState;
 use std::net::{Ipv4Addr, Net, TcpListener, TcpStream};
@@ -398,7 +400,7 @@ where
     S: Source,
     K: Sink,
 {
-    match places_of(words) {
+    match places(words) {
         Some(
             Places::Serve {
                 address,
