@@ -1,5 +1,5 @@
 -- The first fault of a list, fault by fault.
-use Rattle.std.proofs.Common.{◌≡◌, ℕ, ◌+◌, ◌<◌, Bool, true, false, cond, List, [], ◌∷◌, ◌++◌, length, get_or, drop, Option, None, Some, is_some, IsSome, option_map, unwrap_or, Ok, Err, true≢false, refl, sym, ap, ◌∙◌}
+use Rattle.std.proofs.Common.{◌≡◌, ℕ, ◌+◌, ◌<◌, Bool, true, false, cond, List, [], ◌∷◌, ◌++◌, codes, length, get_or, drop, Option, None, Some, is_some, IsSome, option_map, unwrap_or, Ok, Err, true≢false, refl, sym, ap, ◌∙◌}
 use Rattle.std.specs.Option.{option_and_then, option_map_or}
 use Rattle.std.specs.Str.{IsUtf8, is_utf8}
 use Rattle.std.proofs.lemmas.Str.{IsUtf8-from_is_utf8, is_utf8-from_IsUtf8}
@@ -10,8 +10,8 @@ use Rattle.toml.specs.declared.value.Value.{Value}
 use Rattle.agent_config.specs.declared.fault.ConfigFault.{ConfigFault}
 use Rattle.agent_config.specs.declared.fault.ConfigFault.TheVariants.{NotToml}
 use Rattle.agent_config.specs.Config.{twice}
-use Rattle.agent_config.specs.Values.{each}
-use Rattle.agent_config.specs.Settings.{client_faults, client_tables, clients_faults, clients_of, config_of, config_unless, document, faults, first, or_first, settings_in, settled, tables_in, top_faults}
+use Rattle.agent_config.specs.Values.{each, tables_of}
+use Rattle.agent_config.specs.Settings.{client_faults, client_keys, client_tables, clients_faults, clients_of, config_of, config_unless, document, faults, first, identity_faults, name_faults, needed, number_faults, or_first, origin_faults, rule_faults, settings_in, settled, tables_in, top_faults, top_keys, unknown}
 use Rattle.agent_config.proofs.ValueLemmas.{each_next}
 
 pub first_passed : (fault : Option ConfigFault) (faults : List (Option ConfigFault)) → fault ≡ None → first (fault ∷ faults) ≡ first faults
@@ -25,6 +25,55 @@ pub first-append : (front rest : List (Option ConfigFault)) → first (front ++ 
 first-append [] rest = refl
 first-append (None ∷ front) rest = first-append front rest
 first-append (Some e ∷ front) rest = refl
+
+-- what has no fault is passed, and the first fault stands before what comes after it
+pub front_passed : (front rest : List (Option ConfigFault)) → first front ≡ None → first (front ++ rest) ≡ first rest
+front_passed front rest none = first-append front rest ∙ rw none refl
+
+pub front_stops : (front rest : List (Option ConfigFault)) (e : ConfigFault) → first front ≡ Some e → first (front ++ rest) ≡ Some e
+front_stops front rest e some = first-append front rest ∙ rw some refl
+
+-- the parts of a client's faults, each behind those that have none
+module _ (client : ℕ) (t : Members) (e : ConfigFault) (identity : first (identity_faults client t) ≡ None)
+    (origin : first (origin_faults client t) ≡ None) where
+  behind-origin : first (client_faults client t) ≡ first (rule_faults client t ++ unknown client client_keys t ∷ [])
+  unfolding client_faults
+  behind-origin =
+      let rest = rule_faults client t ++ unknown client client_keys t ∷ [] in
+      front_passed (identity_faults client t) (origin_faults client t ++ rest) identity
+      ∙ front_passed (origin_faults client t) rest origin
+
+  pub rules-stop : first (rule_faults client t) ≡ Some e → first (client_faults client t) ≡ Some e
+  rules-stop some = behind-origin ∙ front_stops (rule_faults client t) (unknown client client_keys t ∷ []) e some
+
+  pub other-key-stops : first (rule_faults client t) ≡ None → unknown client client_keys t ≡ Some e → first (client_faults client t) ≡ Some e
+  other-key-stops rules some =
+      behind-origin ∙ front_passed (rule_faults client t) (unknown client client_keys t ∷ []) rules
+      ∙ first_stops (unknown client client_keys t) [] e some
+
+-- the parts of the top table's faults, likewise
+module _ (t : Members) (e : ConfigFault) (names : first (name_faults t) ≡ None) where
+  abbrev keys-left : List (Option ConfigFault)
+  keys-left = needed 0 (codes "clients") tables_of t ∷ unknown 0 top_keys t ∷ []
+
+  behind-names : first (top_faults t) ≡ first (number_faults t ++ keys-left)
+  unfolding top_faults
+  behind-names = front_passed (name_faults t) (number_faults t ++ keys-left) names
+
+  pub numbers-stop : first (number_faults t) ≡ Some e → first (top_faults t) ≡ Some e
+  numbers-stop some = behind-names ∙ front_stops (number_faults t) keys-left e some
+
+  module _ (numbers : first (number_faults t) ≡ None) where
+    pub clients-stop-top : needed 0 (codes "clients") tables_of t ≡ Some e → first (top_faults t) ≡ Some e
+    clients-stop-top some =
+        behind-names ∙ front_passed (number_faults t) keys-left numbers
+        ∙ first_stops (needed 0 (codes "clients") tables_of t) (unknown 0 top_keys t ∷ []) e some
+
+    pub other-key-stops-top : needed 0 (codes "clients") tables_of t ≡ None → unknown 0 top_keys t ≡ Some e → first (top_faults t) ≡ Some e
+    other-key-stops-top clients some =
+        behind-names ∙ front_passed (number_faults t) keys-left numbers
+        ∙ first_passed (needed 0 (codes "clients") tables_of t) (unknown 0 top_keys t ∷ []) clients
+        ∙ first_stops (unknown 0 top_keys t) [] e some
 
 -- ---- the tables of an array, one by one
 

@@ -75,36 +75,57 @@ client_keys =
     codes "name" ∷ codes "address" ∷ codes "secret" ∷ codes "origin_host" ∷ codes "origin_realm"
     ∷ codes "require_seal" ∷ codes "session_keys" ∷ codes "nas_addresses" ∷ []
 
--- those of the top table
-unfoldable pub top_faults : Members → List (Option ConfigFault)
-top_faults t =
+-- those of the top table: its names and address, its numbers, its clients, and keys that no settings have
+abbrev pub name_faults : Members → List (Option ConfigFault)
+name_faults t =
     needed 0 (codes "host") name_of t
     ∷ needed 0 (codes "realm") name_of t
     ∷ allowed 0 (codes "home_realm") name_of t
     ∷ needed 0 (codes "address") address_of t
-    ∷ allowed 0 (codes "boot") (number_of 0 4294967295) t
+    ∷ []
+
+abbrev pub number_faults : Members → List (Option ConfigFault)
+number_faults t =
+    allowed 0 (codes "boot") (number_of 0 4294967295) t
     ∷ allowed 0 (codes "retention_ms") (number_of 1000 300000) t
     ∷ allowed 0 (codes "capacity") (number_of 1 65536) t
     ∷ allowed 0 (codes "backlog") (number_of 2 65536) t
     ∷ allowed 0 (codes "watchdog_ms") (number_of 6000 600000) t
     ∷ allowed 0 (codes "patience_ms") (number_of 1000 300000) t
-    ∷ needed 0 (codes "clients") tables_of t
+    ∷ []
+
+unfoldable pub top_faults : Members → List (Option ConfigFault)
+top_faults t =
+    name_faults t ++ number_faults t
+    ++ needed 0 (codes "clients") tables_of t
     ∷ unknown 0 top_keys t
     ∷ []
 
--- those of the client with this number, which is 1 for the first
-unfoldable pub client_faults : ℕ → Members → List (Option ConfigFault)
-client_faults client t =
+-- those of the client with this number, which is 1 for the first: who it is, the peer that it is in Diameter, what holds for
+-- it, and keys that no client has
+abbrev pub identity_faults : ℕ → Members → List (Option ConfigFault)
+identity_faults client t =
     needed client (codes "name") name_of t
     ∷ needed client (codes "address") address_of t
     ∷ needed client (codes "secret") secret_of t
-    ∷ needed client (codes "origin_host") name_of t
+    ∷ []
+
+abbrev pub origin_faults : ℕ → Members → List (Option ConfigFault)
+origin_faults client t =
+    needed client (codes "origin_host") name_of t
     ∷ needed client (codes "origin_realm") name_of t
-    ∷ allowed client (codes "require_seal") as_bool t
+    ∷ []
+
+abbrev pub rule_faults : ℕ → Members → List (Option ConfigFault)
+rule_faults client t =
+    allowed client (codes "require_seal") as_bool t
     ∷ allowed client (codes "session_keys") keys_choice_of t
     ∷ allowed client (codes "nas_addresses") addresses_of t
-    ∷ unknown client client_keys t
     ∷ []
+
+unfoldable pub client_faults : ℕ → Members → List (Option ConfigFault)
+client_faults client t =
+    identity_faults client t ++ origin_faults client t ++ rule_faults client t ++ unknown client client_keys t ∷ []
 
 abbrev pub clients_faults : ℕ → List Members → List (Option ConfigFault)
 clients_faults client [] = []

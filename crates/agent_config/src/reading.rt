@@ -4,9 +4,10 @@ ghost use Rattle.std.specs.Prelude.{◌≡◌, ◌≢◌, ◌≤◌, ◌^◌, �
 ghost use Rattle.toml.specs.Data.{as_table};
 ghost use Rattle.toml.specs.View.{items_view, table_view};
 ghost use Rattle.agent_config.specs.Values.{each, number_of, tables_of};
-ghost use Rattle.agent_config.specs.Settings.{allowed, at, client_faults, client_of, clients_faults, first, settings_in, settled, tables_in, top_faults, top_of};
+ghost use Rattle.agent_config.specs.Settings.{allowed, at, client_faults, client_of, clients_faults, first, identity_faults, name_faults, number_faults, origin_faults, rule_faults, settings_in, settled, tables_in, top_faults, top_of};
 ghost use Rattle.agent_config.specs.declared.fault.ConfigFault.TheVariants as fault;
 
+use crate::address_list::AddressList;
 use crate::client::Client;
 use crate::clients::Clients;
 use crate::config::Config;
@@ -46,25 +47,96 @@ const CLIENT_KEYS: [&str; 8] = [
     "nas_addresses",
 ];
 
+/// Who a client is.
+#[derive(Drop)]
+struct Identity {
+    name: Octets,
+    address: u32,
+    secret: Octets,
+}
+
+/// The peer that a client is in Diameter.
+#[derive(Drop)]
+struct Origin {
+    host: Octets,
+    realm: Octets,
+}
+
+/// What holds for a client.
+#[derive(Drop)]
+struct Rules {
+    require_seal: bool,
+    omit_keys: bool,
+    nas: AddressList,
+}
+
+/// Who the client of a table is.
+#[tactic(auto, using(crate::proofs::FaultLemmas::first_passed, crate::proofs::FaultLemmas::first_stops), unfolding(crate::specs::Settings::client_of))]
+fn read_identity(alloc: Global, table: &Table, client: u32) -> Result<Identity, ConfigFault>
+    ensures ok { IfOk result (λ i. first (identity_faults client (table_view table.now)) ≡ None) }
+    ensures name { IfOk result (λ i. i.name ≡ (client_of (table_view table.now)).name) }
+    ensures address { IfOk result (λ i. i.address ≡ (client_of (table_view table.now)).address) }
+    ensures secret { IfOk result (λ i. i.secret ≡ (client_of (table_view table.now)).secret) }
+    ensures err { IfErr result (λ e. e ≢ fault.NoMemory → first (identity_faults client (table_view table.now)) ≡ Some e) }
+{
+    Ok(Identity {
+        name: name(alloc, table, client, "name")?,
+        address: address(alloc, table, client, "address")?,
+        secret: secret(alloc, table, client, "secret")?,
+    })
+}
+
+/// The peer that the client of a table is.
+#[tactic(auto, using(crate::proofs::FaultLemmas::first_passed, crate::proofs::FaultLemmas::first_stops), unfolding(crate::specs::Settings::client_of))]
+fn read_origin(alloc: Global, table: &Table, client: u32) -> Result<Origin, ConfigFault>
+    ensures ok { IfOk result (λ o. first (origin_faults client (table_view table.now)) ≡ None) }
+    ensures host { IfOk result (λ o. o.host ≡ (client_of (table_view table.now)).origin_host) }
+    ensures realm { IfOk result (λ o. o.realm ≡ (client_of (table_view table.now)).origin_realm) }
+    ensures err { IfErr result (λ e. e ≢ fault.NoMemory → first (origin_faults client (table_view table.now)) ≡ Some e) }
+{
+    Ok(Origin {
+        host: name(alloc, table, client, "origin_host")?,
+        realm: name(alloc, table, client, "origin_realm")?,
+    })
+}
+
+/// What holds for the client of a table.
+#[tactic(auto, using(crate::proofs::FaultLemmas::first_passed, crate::proofs::FaultLemmas::first_stops), unfolding(crate::specs::Settings::client_of))]
+fn read_rules(alloc: Global, table: &Table, client: u32) -> Result<Rules, ConfigFault>
+    ensures ok { IfOk result (λ r. first (rule_faults client (table_view table.now)) ≡ None) }
+    ensures seal { IfOk result (λ r. r.require_seal ≡ (client_of (table_view table.now)).require_seal) }
+    ensures keys { IfOk result (λ r. r.omit_keys ≡ (client_of (table_view table.now)).omit_keys) }
+    ensures nas { IfOk result (λ r. r.nas ≡ (client_of (table_view table.now)).nas) }
+    ensures err { IfErr result (λ e. e ≢ fault.NoMemory → first (rule_faults client (table_view table.now)) ≡ Some e) }
+{
+    Ok(Rules {
+        require_seal: flag(alloc, table, client, "require_seal")?.unwrap_or(false),
+        omit_keys: keys_choice(alloc, table, client, "session_keys")?.unwrap_or(false),
+        nas: addresses(alloc, table, client, "nas_addresses")?,
+    })
+}
+
 /// The client of a table.
-#[tactic(auto, using(crate::proofs::FaultLemmas::first_passed, crate::proofs::FaultLemmas::first_stops), unfolding(crate::specs::Settings::client_faults, crate::specs::Settings::client_of))]
+#[tactic(auto, using(crate::proofs::FaultLemmas::first_passed, crate::proofs::FaultLemmas::front_passed, crate::proofs::FaultLemmas::front_stops), unfolding(crate::specs::Settings::client_faults))]
 fn read_client(alloc: Global, table: &Table, client: u32) -> Result<Client, ConfigFault>
     ensures ok { IfOk result (λ c. (first (client_faults client (table_view table.now)) ≡ None)
         × (c ≡ client_of (table_view table.now))) }
     ensures err { IfErr result (λ e. e ≢ fault.NoMemory → first (client_faults client (table_view table.now)) ≡ Some e) }
 {
-    let made = Client {
-        name: name(alloc, table, client, "name")?,
-        address: address(alloc, table, client, "address")?,
-        secret: secret(alloc, table, client, "secret")?,
-        origin_host: name(alloc, table, client, "origin_host")?,
-        origin_realm: name(alloc, table, client, "origin_realm")?,
-        require_seal: flag(alloc, table, client, "require_seal")?.unwrap_or(false),
-        omit_keys: keys_choice(alloc, table, client, "session_keys")?.unwrap_or(false),
-        nas: addresses(alloc, table, client, "nas_addresses")?,
-    };
+    let identity = read_identity(alloc, table, client)?;
+    let origin = read_origin(alloc, table, client)?;
+    let rules = read_rules(alloc, table, client)?;
     no_others(alloc, table, client, &CLIENT_KEYS)?;
-    Ok(made)
+    Ok(Client {
+        name: identity.name,
+        address: identity.address,
+        secret: identity.secret,
+        origin_host: origin.host,
+        origin_realm: origin.realm,
+        require_seal: rules.require_seal,
+        omit_keys: rules.omit_keys,
+        nas: rules.nas,
+    })
 }
 
 /// A number of the top table below 2^32, in a range, that may be missing.
@@ -86,15 +158,35 @@ fn small_number(
     }
 }
 
-/// The settings of the top table, with no clients yet, and the tables of the clients.
-#[tactic(auto, using(crate::proofs::FaultLemmas::first_passed, crate::proofs::FaultLemmas::first_stops), unfolding(crate::specs::Settings::top_faults, crate::specs::Settings::top_of))]
-fn read_top(alloc: Global, table: &Table) -> Result<(Config, &[Value]), ConfigFault>
-    ensures ok { IfOk result (λ read. (first (top_faults (table_view table.now)) ≡ None)
-        × (read.0 ≡ top_of (table_view table.now))) }
-    ensures tables { IfOk result (λ read. at (codes "clients") tables_of (table_view table.now) ≡ each as_table (items_view read.1.now)) }
-    ensures some { IfOk result (λ read. IsSome (each as_table (items_view read.1.now))) }
-    ensures few { IfOk result (λ read. length read.1.now ≤ 1024) }
-    ensures err { IfErr result (λ e. e ≢ fault.NoMemory → first (top_faults (table_view table.now)) ≡ Some e) }
+/// The names of the top table, and its address.
+#[derive(Drop)]
+struct Names {
+    host: Octets,
+    realm: Octets,
+    home_realm: Octets,
+    address: u32,
+}
+
+/// The numbers of the top table.
+#[derive(Clone, Copy)]
+struct Figures {
+    boot: Option<u32>,
+    retention: u64,
+    capacity: u32,
+    backlog: u32,
+    watchdog: u64,
+    patience: u64,
+}
+
+/// The names of the top table, and its address.
+#[tactic(auto, using(crate::proofs::FaultLemmas::first_passed, crate::proofs::FaultLemmas::first_stops), unfolding(crate::specs::Settings::top_of))]
+fn read_names(alloc: Global, table: &Table) -> Result<Names, ConfigFault>
+    ensures ok { IfOk result (λ n. first (name_faults (table_view table.now)) ≡ None) }
+    ensures host { IfOk result (λ n. n.host ≡ (top_of (table_view table.now)).host) }
+    ensures realm { IfOk result (λ n. n.realm ≡ (top_of (table_view table.now)).realm) }
+    ensures home { IfOk result (λ n. n.home_realm ≡ (top_of (table_view table.now)).home_realm) }
+    ensures address { IfOk result (λ n. n.address ≡ (top_of (table_view table.now)).address) }
+    ensures err { IfErr result (λ e. e ≢ fault.NoMemory → first (name_faults (table_view table.now)) ≡ Some e) }
 {
     let host = name(alloc, table, 0, "host")?;
     let realm = name(alloc, table, 0, "realm")?;
@@ -103,25 +195,67 @@ fn read_top(alloc: Global, table: &Table) -> Result<(Config, &[Value]), ConfigFa
         None => Octets::copy(alloc, realm.as_slice())?,
     };
     let address = address(alloc, table, 0, "address")?;
+    Ok(Names {
+        host,
+        realm,
+        home_realm,
+        address,
+    })
+}
+
+/// The numbers of the top table.
+#[tactic(auto, using(crate::proofs::FaultLemmas::first_passed, crate::proofs::FaultLemmas::first_stops), unfolding(crate::specs::Settings::top_of))]
+fn read_figures(alloc: Global, table: &Table) -> Result<Figures, ConfigFault>
+    ensures ok { IfOk result (λ f. first (number_faults (table_view table.now)) ≡ None) }
+    ensures boot { IfOk result (λ f. f.boot ≡ (top_of (table_view table.now)).boot) }
+    ensures retention { IfOk result (λ f. f.retention ≡ (top_of (table_view table.now)).retention) }
+    ensures patience { IfOk result (λ f. f.patience ≡ (top_of (table_view table.now)).patience) }
+    ensures capacity { IfOk result (λ f. f.capacity ≡ (top_of (table_view table.now)).capacity) }
+    ensures backlog { IfOk result (λ f. f.backlog ≡ (top_of (table_view table.now)).backlog) }
+    ensures watchdog { IfOk result (λ f. f.watchdog ≡ (top_of (table_view table.now)).watchdog) }
+    ensures err { IfErr result (λ e. e ≢ fault.NoMemory → first (number_faults (table_view table.now)) ≡ Some e) }
+{
     let boot = small_number(alloc, table, "boot", 0, u32::MAX)?;
     let retention = number(alloc, table, "retention_ms", 1_000, 300_000)?.unwrap_or(30_000);
     let capacity = small_number(alloc, table, "capacity", 1, 65_536)?.unwrap_or(4_096);
     let backlog = small_number(alloc, table, "backlog", 2, 65_536)?.unwrap_or(4_096);
     let watchdog = number(alloc, table, "watchdog_ms", 6_000, 600_000)?.unwrap_or(30_000);
     let patience = number(alloc, table, "patience_ms", 1_000, 300_000)?.unwrap_or(retention);
-    let tables = client_tables(alloc, table)?;
-    no_others(alloc, table, 0, &TOP_KEYS)?;
-    let config = Config {
-        host,
-        realm,
-        home_realm,
-        address,
+    Ok(Figures {
         boot,
         retention,
-        patience,
         capacity,
         backlog,
         watchdog,
+        patience,
+    })
+}
+
+/// The settings of the top table, with no clients yet, and the tables of the clients.
+#[tactic(auto, using(crate::proofs::FaultLemmas::first_passed, crate::proofs::FaultLemmas::front_passed, crate::proofs::FaultLemmas::front_stops), unfolding(crate::specs::Settings::top_faults, crate::specs::Settings::top_of))]
+fn read_top(alloc: Global, table: &Table) -> Result<(Config, &[Value]), ConfigFault>
+    ensures ok { IfOk result (λ read. (first (top_faults (table_view table.now)) ≡ None)
+        × (read.0 ≡ top_of (table_view table.now))) }
+    ensures tables { IfOk result (λ read. at (codes "clients") tables_of (table_view table.now) ≡ each as_table (items_view read.1.now)) }
+    ensures some { IfOk result (λ read. IsSome (each as_table (items_view read.1.now))) }
+    ensures few { IfOk result (λ read. length read.1.now ≤ 1024) }
+    ensures err { IfErr result (λ e. e ≢ fault.NoMemory → first (top_faults (table_view table.now)) ≡ Some e) }
+{
+    let names = read_names(alloc, table)?;
+    let figures = read_figures(alloc, table)?;
+    let tables = client_tables(alloc, table)?;
+    no_others(alloc, table, 0, &TOP_KEYS)?;
+    let config = Config {
+        host: names.host,
+        realm: names.realm,
+        home_realm: names.home_realm,
+        address: names.address,
+        boot: figures.boot,
+        retention: figures.retention,
+        patience: figures.patience,
+        capacity: figures.capacity,
+        backlog: figures.backlog,
+        watchdog: figures.watchdog,
         clients: Clients::new(alloc),
     };
     Ok((config, tables))

@@ -1,5 +1,5 @@
 -- Each image of a request is a whole message.
-use Rattle.std.proofs.Common.{◌≡◌, ℕ, ◌+◌, ◌≤◌, List, [], ◌∷◌, ◌++◌, length, Option, Some, None, refl, sym, ap, subst, arith}
+use Rattle.std.proofs.Common.{◌≡◌, ℕ, ◌+◌, ◌*◌, ◌≤◌, List, [], ◌∷◌, ◌++◌, length, Option, Some, None, refl, sym, ap, subst, arith}
 use Rattle.std.specs.Prelude.{IfSome}
 use Rattle.wire_core.specs.Numbers.{u24, u32}
 use Rattle.radius_packet.specs.Packet.{PacketParts, attributes_text}
@@ -39,75 +39,66 @@ use Rattle.agent_core.proofs.TakenSteps.{header_by-fits}
 
 -- ---- heads
 
-size-pair : (a b : AvpParts) (k n : ℕ) → size (a ∷ []) ≤ k → size (b ∷ []) ≤ n → size (a ∷ b ∷ []) ≤ k + n
-size-pair a b k n first second = omega (arith, size-append (a ∷ []) (b ∷ []))
+-- Each bound is the sum of the bounds of its parts, so that no comparison opens a list.
+size-joined : (front rest : List AvpParts) (k n : ℕ) → size front ≤ k → size rest ≤ n → size (front ++ rest) ≤ k + n
+size-joined front rest k n first second = omega (arith, size-append front rest)
 
-four : (n : ℕ) → length (u32 n) ≡ 4
+size-up-to : (code : ℕ) (body : List ℕ) (k : ℕ) → length body ≤ k → size (plain_avp code body ∷ []) ≤ k + 11
+size-up-to code body k short = omega (arith, size-plain code body)
+
+size-pair : (a b : AvpParts) (k n : ℕ) → size (a ∷ []) ≤ k → size (b ∷ []) ≤ n → size (a ∷ b ∷ []) ≤ k + n
+size-pair a b k n first second = size-joined (a ∷ []) (b ∷ []) k n first second
+
+at-most-four : (n : ℕ) → length (u32 n) ≤ 4
 unfolding u32
-four n = refl
+at-most-four n = omega arith
 
 size-four : (code n : ℕ) → size (plain_avp code (u32 n) ∷ []) ≤ 15
-size-four code n = omega (arith, size-plain code (u32 n), four n)
+size-four code n = size-up-to code (u32 n) 4 (at-most-four n)
 
 origin-size : (client : Client) → ClientInLimits client → size (origin_avps client.origin_host client.origin_realm) ≤ 150
 origin-size client within =
     size-pair (plain_avp 264 client.origin_host) (plain_avp 296 client.origin_realm) 75 75
-    (omega (arith, size-plain 264 client.origin_host, host_is_short client within))
-    (omega (arith, size-plain 296 client.origin_realm, realm_is_short client within))
+    (size-up-to 264 client.origin_host 64 (host_is_short client within))
+    (size-up-to 296 client.origin_realm 64 (realm_is_short client within))
 
 host-size : (host : Option (List ℕ)) → IfSome host (λ h. length h ≤ 255) → size (host_avps host) ≤ 266
 host-size None short = omega (arith, size-nil)
-host-size (Some host) short = omega (arith, size-plain 293 host)
+host-size (Some host) short = size-up-to 293 host 255 short
 
 route-end : (client : Client) (realm : List ℕ) → ClientInLimits client → length realm ≤ 255 → size (origin_avps client.origin_host client.origin_realm ++ plain_avp 283 realm ∷ []) ≤ 416
 route-end client realm within short =
-    omega (arith, size-append (origin_avps client.origin_host client.origin_realm) (plain_avp 283 realm ∷ []), origin-size client within, size-plain 283 realm)
+    size-joined (origin_avps client.origin_host client.origin_realm) (plain_avp 283 realm ∷ []) 150 266
+    (origin-size client within) (size-up-to 283 realm 255 short)
 
-auth_names-size : (application : ℕ) (client : Client) (route : RouteParts) → ClientInLimits client → RouteFits 244 route → size (auth_names application client route) ≤ 700
+auth_names-size : (application : ℕ) (client : Client) (route : RouteParts) → ClientInLimits client → RouteFits 244 route → size (auth_names application client route) ≤ 686
 auth_names-size application client route within fits =
     let rest = origin_avps client.origin_host client.origin_realm ++ plain_avp 283 route.realm ∷ [] in
-    let session : length route.session ≤ 244 = fits.session in
-    omega (
-      arith,
-      size-append (plain_avp 263 route.session ∷ []) (plain_avp 258 (u32 application) ∷ rest),
-      size-append (plain_avp 258 (u32 application) ∷ []) rest,
-      size-plain 263 route.session,
-      size-four 258 application,
-      route-end client route.realm within fits.realm,
-    )
+    size-joined (plain_avp 263 route.session ∷ []) (plain_avp 258 (u32 application) ∷ rest) 255 431
+    (size-up-to 263 route.session 244 fits.session)
+    (size-joined (plain_avp 258 (u32 application) ∷ []) rest 15 416 (size-four 258 application) (route-end client route.realm within fits.realm))
 
-auth_head-size : (application : ℕ) (client : Client) (packet : PacketParts) (route : RouteParts) → ClientInLimits client → RouteFits 244 route → size (auth_head application client packet route) ≤ 1000
+auth_head-size : (application : ℕ) (client : Client) (packet : PacketParts) (route : RouteParts) → ClientInLimits client → RouteFits 244 route → size (auth_head application client packet route) ≤ 982
 auth_head-size application client packet route within fits =
     let kind = plain_avp 274 (u32 (request_type packet)) in
     let origin = plain_avp 408 (u32 1) in
-    omega (
-      arith,
-      size-append (auth_names application client route) (host_avps route.host ++ kind ∷ origin ∷ []),
-      size-append (host_avps route.host) (kind ∷ origin ∷ []),
-      auth_names-size application client route within fits,
-      host-size route.host fits.host,
-      size-pair kind origin 15 15 (size-four 274 (request_type packet)) (size-four 408 1),
-    )
+    size-joined (auth_names application client route) (host_avps route.host ++ kind ∷ origin ∷ []) 686 296
+    (auth_names-size application client route within fits)
+    (size-joined (host_avps route.host) (kind ∷ origin ∷ []) 266 30 (host-size route.host fits.host)
+    (size-pair kind origin 15 15 (size-four 274 (request_type packet)) (size-four 408 1)))
 
-head-size : (client : Client) (packet : PacketParts) (route : RouteParts) → ClientInLimits client → RouteFits 1024 route → size (accounting.head client packet route) ≤ 1600
+head-size : (client : Client) (packet : PacketParts) (route : RouteParts) → ClientInLimits client → RouteFits 1024 route → size (accounting.head client packet route) ≤ 1511
 head-size client packet route within fits =
     let all = packet.attributes in
     let rest = origin_avps client.origin_host client.origin_realm ++ plain_avp 283 route.realm ∷ [] in
-    let kind = plain_avp 480 (u32 (accounting.record_type (status all))) in
-    let place = plain_avp 485 (u32 (accounting.record_number (status all) (accounting.session_time all))) in
-    let application = plain_avp 259 (u32 3) in
-    let origin = plain_avp 408 (u32 1) in
-    let session : length route.session ≤ 1024 = fits.session in
-    omega (
-      arith,
-      size-append (names client route.session route.realm) (kind ∷ place ∷ application ∷ origin ∷ []),
-      size-append (plain_avp 263 route.session ∷ []) rest,
-      size-plain 263 route.session,
-      route-end client route.realm within fits.realm,
-      size-append (kind ∷ place ∷ []) (application ∷ origin ∷ []),
-      size-pair kind place 15 15 (size-four 480 (accounting.record_type (status all))) (size-four 485 (accounting.record_number (status all) (accounting.session_time all))),
-      size-pair application origin 15 15 (size-four 259 3) (size-four 408 1),
-    )
+    let kind = accounting.record_type (status all) in
+    let place = accounting.record_number (status all) (accounting.session_time all) in
+    size-joined (names client route.session route.realm) (accounting.record_avps all) 1451 60
+    (size-joined (plain_avp 263 route.session ∷ []) rest 1035 416
+    (size-up-to 263 route.session 1024 fits.session) (route-end client route.realm within fits.realm))
+    (size-joined (plain_avp 480 (u32 kind) ∷ plain_avp 485 (u32 place) ∷ []) (plain_avp 259 (u32 3) ∷ plain_avp 408 (u32 1) ∷ []) 30 30
+    (size-pair (plain_avp 480 (u32 kind)) (plain_avp 485 (u32 place)) 15 15 (size-four 480 kind) (size-four 485 place))
+    (size-pair (plain_avp 259 (u32 3)) (plain_avp 408 (u32 1)) 15 15 (size-four 259 3) (size-four 408 1)))
 
 -- ---- messages
 
@@ -132,37 +123,32 @@ pub record Sendable (kind : Kind2) (client : Client) (packet : PacketParts) (rou
   pub authenticator : length packet.authenticator ≡ 16
   pub attributes : length (attributes_text packet.attributes) ≤ 4076
 
+-- a head and its pieces, which have so many octets for each of the attributes
+fits-message : (head pieces after : List AvpParts) (k most count : ℕ) → size head ≤ k → after ≡ pieces → size after ≤ most * count
+    → k + most * count ≤ 65516 → size (head ++ pieces) ≤ 65516
+fits-message head pieces after k most count first same second few = omega (arith, size-append head pieces, ap size same)
+
 access-size : (client : Client) (packet : PacketParts) (route : RouteParts) → Sendable Access client packet route → size (access.request_avps client packet route) ≤ 65516
 access-size client packet route s =
-    let same = ap size (access_pieces.pieces-are client packet) in
     let few = s.attributes in
-    omega (
-      arith,
-      size-append (auth_head 1 client packet route) (access.pieces client packet),
-      auth_head-size 1 client packet route s.within s.fits,
-      access_pieces.pieces_after-size client packet s.authenticator (judged-passwords client packet Access s.judged),
-    )
+    fits-message (auth_head 1 client packet route) (access.pieces client packet) _
+    982 14 (length (attributes_text packet.attributes))
+    (auth_head-size 1 client packet route s.within s.fits) (access_pieces.pieces-are client packet)
+    (access_pieces.pieces_after-size client packet s.authenticator (judged-passwords client packet Access s.judged)) (omega arith)
 
 eap-size : (client : Client) (packet : PacketParts) (route : RouteParts) → Sendable Eap client packet route → size (eap.request_avps client packet route) ≤ 65516
 eap-size client packet route s =
-    let same = ap size (eap_pieces.pieces-are packet) in
     let few = s.attributes in
-    omega (
-      arith,
-      size-append (auth_head 5 client packet route) (eap.pieces packet),
-      auth_head-size 5 client packet route s.within s.fits,
-      eap_pieces.pieces_after-size packet,
-    )
+    fits-message (auth_head 5 client packet route) (eap.pieces packet) _
+    982 15 (length (attributes_text packet.attributes))
+    (auth_head-size 5 client packet route s.within s.fits) (eap_pieces.pieces-are packet) (eap_pieces.pieces_after-size packet) (omega arith)
 
 accounting-size : (client : Client) (packet : PacketParts) (route : RouteParts) → ClientInLimits client → RouteFits 1024 route → length (attributes_text packet.attributes) ≤ 4076 → size (accounting.request_avps client packet route) ≤ 65516
 accounting-size client packet route within fits few =
-    let same = ap size (accounting_pieces.pieces-are packet.attributes) in
-    omega (
-      arith,
-      size-append (accounting.head client packet route) (accounting.pieces packet.attributes),
-      head-size client packet route within fits,
-      accounting_pieces.pieces_after-size packet.attributes,
-    )
+    let all = packet.attributes in
+    fits-message (accounting.head client packet route) (accounting.pieces all) _
+    1511 14 (length (attributes_text all))
+    (head-size client packet route within fits) (accounting_pieces.pieces-are all) (accounting_pieces.pieces_after-size all) (omega arith)
 
 accounting-whole : (kind : Kind2) (client : Client) (packet : PacketParts) (route : RouteParts) (numbers : Numbers) → IsHeader (accounting.request_header numbers) → ClientInLimits client → RouteFits 1024 route → length (attributes_text packet.attributes) ≤ 4076 → IsWhole (accounting_image client packet route numbers)
 unfolding accounting_image
