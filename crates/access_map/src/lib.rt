@@ -10,8 +10,3 @@ mod requests;
 pub use answers::answer;
 pub use judging::judge;
 pub use requests::request;
-
-#[cfg(test)]
-mod tests;
-#[cfg(test)]
-mod vectors;

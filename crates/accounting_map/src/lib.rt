@@ -13,8 +13,3 @@ pub use answers::{answer, termination};
 pub use judging::judge;
 pub use records::{cause, session_id};
 pub use requests::request;
-
-#[cfg(test)]
-mod tests;
-#[cfg(test)]
-mod vectors;

@@ -22,6 +22,3 @@ pub use laws::{
 };
 pub use reading::read;
 pub use values::read_address;
-
-#[cfg(test)]
-mod tests;

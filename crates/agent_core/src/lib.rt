@@ -20,6 +20,3 @@ pub use laws::{
     requests_are_matched_once, requests_are_numbered, requests_of_one_key_are_apart,
     requests_reach_over_links, room_is_left, sends_are_images,
 };
-
-#[cfg(test)]
-mod tests;

@@ -18,6 +18,3 @@ pub use heard::Heard;
 pub use server::{Finish, World, serve};
 pub use trail::{Links, Pair, Trail};
 pub use workers::{Ended, Worker};
-
-#[cfg(test)]
-mod tests;

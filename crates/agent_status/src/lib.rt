@@ -5,6 +5,3 @@ mod status;
 mod text;
 
 pub use status::Status;
-
-#[cfg(test)]
-mod tests;

@@ -458,6 +458,3 @@ fn main(rt: HostRuntime) -> ExitCode {
         Err(ended) => end(&rt, command_of(words), ended),
     }
 }
-
-#[cfg(test)]
-mod tests;

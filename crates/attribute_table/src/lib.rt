@@ -18,6 +18,3 @@ pub use laws::{
 pub use parts::{Vsa, VsaPart};
 pub use row::{Kind, Row, row_of_avp, row_of_type};
 pub use vendor::vsa;
-
-#[cfg(test)]
-mod tests;

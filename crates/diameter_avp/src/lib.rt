@@ -37,6 +37,3 @@ pub use fault::AvpFault;
 pub use items::Avps;
 pub use reading::{avps, check_avps};
 pub use writer::{AvpWriter, Group, WriteFault};
-
-#[cfg(test)]
-mod tests;

@@ -34,8 +34,3 @@ pub use next::Next;
 pub use results::{is_success, result_code};
 pub use retransmission::again;
 pub use writer::MessageWriter;
-
-#[cfg(test)]
-mod tests;
-#[cfg(test)]
-mod vectors;

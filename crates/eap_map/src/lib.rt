@@ -9,8 +9,3 @@ mod seen;
 
 pub use answers::answer;
 pub use requests::request;
-
-#[cfg(test)]
-mod tests;
-#[cfg(test)]
-mod vectors;

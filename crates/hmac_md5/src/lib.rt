@@ -16,6 +16,3 @@ pub fn hmac(key: &[u8], message: &[u8]) -> [u8; 16]
     code.update(message);
     code.finish()
 }
-
-#[cfg(test)]
-mod tests;

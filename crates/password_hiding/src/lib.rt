@@ -116,6 +116,3 @@ pub fn unhide(secret: &[u8], authenticator: &[u8; 16], value: &mut [u8]) -> Resu
     unhide_blocks(secret, authenticator, value);
     Ok(length_without_zeros(value))
 }
-
-#[cfg(test)]
-mod tests;

@@ -31,8 +31,3 @@ pub enum LinkCause {
     Stalled,
     Left,
 }
-
-#[cfg(test)]
-mod tests;
-#[cfg(test)]
-mod vectors;

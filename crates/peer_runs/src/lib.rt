@@ -8,6 +8,3 @@ mod nas_run;
 pub use asking::Place;
 pub use home_run::{HomeEnd, home};
 pub use nas_run::nas;
-
-#[cfg(test)]
-mod home_tests;

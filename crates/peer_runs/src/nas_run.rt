@@ -23,9 +23,6 @@ use transcript::{RawFault, RawLine, RawLines};
 use wire_core::{NoMemory, Octets, Sink, Source};
 use wire_devices::{Clock, Datagrams};
 
-#[cfg(test)]
-mod tests;
-
 /// No RADIUS packet is longer.
 const BUFFER: usize = 4096;
 

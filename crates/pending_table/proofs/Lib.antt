@@ -13,5 +13,4 @@ pub mod Seen
 pub mod Joining
 pub mod Answering
 pub mod Purging
-pub mod Bounds
 pub mod Sending

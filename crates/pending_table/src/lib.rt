@@ -13,6 +13,3 @@ pub use entry::{Answer, Entry, Found};
 pub use key::Key;
 pub use sends::Sends;
 pub use table::Table;
-
-#[cfg(test)]
-mod tests;

@@ -17,6 +17,3 @@ pub use checking::Seal;
 pub use fault::PacketFault;
 pub use reasons::{Reason, Via};
 pub use received::Packet;
-
-#[cfg(test)]
-mod tests;

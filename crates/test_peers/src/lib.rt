@@ -14,8 +14,3 @@ pub use fault::HomeFault;
 pub use home::Home;
 pub use nas::{Nas, NasOutput};
 pub use packet_lines::{LineFault, packet_in_line};
-
-#[cfg(test)]
-mod tests;
-#[cfg(test)]
-mod vectors;

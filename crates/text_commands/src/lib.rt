@@ -19,6 +19,3 @@ pub use settings_input::take_settings;
 pub use showing::show;
 pub use whole_input::take_whole;
 pub use work::write_text;
-
-#[cfg(test)]
-mod tests;

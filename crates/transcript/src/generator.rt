@@ -236,6 +236,3 @@ pub fn generate<K: Sink>(
     }
     Ok(())
 }
-
-#[cfg(test)]
-mod tests;

@@ -36,8 +36,3 @@ pub use reader::LineReader;
 pub use settings_printing::print_settings;
 pub use showing::{ShowFault, show_line};
 pub use words::number_in;
-
-#[cfg(test)]
-mod show_tests;
-#[cfg(test)]
-mod tests;

@@ -36,6 +36,3 @@ pub use seen::Seen;
 pub use service::Service;
 pub use terminations::termination;
 pub use values::are_good;
-
-#[cfg(test)]
-mod tests;

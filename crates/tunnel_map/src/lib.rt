@@ -15,6 +15,3 @@ pub use fault::TunnelFault;
 pub use pushing::push_group;
 pub use tagged::{Tagged, tag_of};
 pub use writing::write_group;
-
-#[cfg(test)]
-mod tests;

@@ -1,4 +1,3 @@
 mod Lists
 mod Keeping
 mod Visiting
-mod Counting

@@ -2,4 +2,3 @@ pub mod Turns
 pub mod Knowing
 pub mod Order
 pub mod Passes
-pub mod Counter

@@ -6,8 +6,6 @@ mod desk;
 mod order;
 mod pass;
 mod steps;
-#[cfg(test)]
-mod tests;
 mod turnstile;
 mod view;
 

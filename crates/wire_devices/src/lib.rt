@@ -28,6 +28,3 @@ pub use streams::{TcpIn, TcpOut};
 pub use times::{MemoryClock, SystemClock};
 pub use udp::UdpDatagrams;
 pub use waker::Waker;
-
-#[cfg(test)]
-mod tests;

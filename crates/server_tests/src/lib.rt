@@ -1,0 +1,20 @@
+//! Tests of what no command of the program shows: threads at a turnstile, the devices, the server over devices that wait for
+//! one another or fail, and the runs of the test peers over such.
+#![tactic(auto)]
+
+#[cfg(test)]
+mod calls;
+#[cfg(test)]
+mod crews;
+#[cfg(test)]
+mod datagrams;
+#[cfg(test)]
+mod home_runs;
+#[cfg(test)]
+mod links;
+#[cfg(test)]
+mod nas_runs;
+#[cfg(test)]
+mod server;
+#[cfg(test)]
+mod turns;
