@@ -9,7 +9,7 @@ use Rattle.radius_packet.specs.Packet.{PacketParts, AttributeParts, attribute_te
 use Rattle.diameter_avp.proofs.CallerLemmas.{length-avp_text}
 use Rattle.diameter_message.specs.PlainAvps.{plain_avp}
 use Rattle.tunnel_map.specs.Tagged.{reading}
-use Rattle.agent_config.specs.declared.client.Client.{Client}
+use Rattle.agent_settings.specs.declared.client.Client.{Client}
 use Rattle.translation.specs.declared.direction.Direction.TheVariants.{Access}
 use Rattle.translation.specs.declared.seen.Seen.{Seen}
 use Rattle.translation.specs.Passing.{nothing}

@@ -7,7 +7,7 @@ use Rattle.std.proofs.lemmas.Bool.{ltb-false, or_parts}
 use Rattle.radius_packet.specs.Packet.{PacketParts, attributes_text}
 use Rattle.radius_packet.specs.declared.reasons.Reason.TheVariants.{NasAddress}
 use Rattle.session_carrier.specs.declared.kept.Kind2.{Kind2}
-use Rattle.agent_config.specs.declared.client.Client.{Client}
+use Rattle.agent_settings.specs.declared.client.Client.{Client}
 use Rattle.translation.specs.declared.direction.Direction.TheVariants as direction
 use Rattle.translation.specs.Values.{first_bad}
 use Rattle.translation.specs.Heads.{is_eap}

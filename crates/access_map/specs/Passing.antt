@@ -2,7 +2,7 @@
 use Rattle.std.specs.Prelude.{◌==◌, List, [], ◌∷◌, if◌then◌else◌}
 use Rattle.radius_packet.specs.Packet.{PacketParts, AttributeParts}
 use Rattle.diameter_avp.specs.Avps.{AvpParts}
-use Rattle.agent_config.specs.declared.client.Client.{Client}
+use Rattle.agent_settings.specs.declared.client.Client.{Client}
 use Rattle.translation.specs.declared.direction.Direction.TheVariants.{Access}
 use Rattle.translation.specs.declared.seen.Seen.{Seen}
 use Rattle.translation.specs.Passing as common

@@ -11,7 +11,7 @@ use Rattle.diameter_message.specs.Message.{message_text}
 use Rattle.diameter_message.specs.PlainAvps.{plain_avp}
 use Rattle.session_carrier.specs.Route.{RouteParts}
 use Rattle.session_carrier.specs.declared.kept.Numbers.{Numbers}
-use Rattle.agent_config.specs.declared.client.Client.{Client}
+use Rattle.agent_settings.specs.declared.client.Client.{Client}
 use Rattle.translation.specs.declared.direction.Direction.TheVariants.{Access}
 use Rattle.translation.specs.Heads.{auth_head}
 use Rattle.translation.specs.Images.{common_piece}

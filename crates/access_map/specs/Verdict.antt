@@ -11,7 +11,7 @@ use Rattle.radius_packet.specs.declared.reasons.Reason.{Reason}
 use Rattle.radius_packet.specs.declared.reasons.Reason.TheVariants.{NoSeal, BadSeal, NasAddress, BothPasswords, BadPassword}
 use Rattle.session_carrier.specs.declared.kept.Kind2.{Kind2}
 use Rattle.session_carrier.specs.declared.kept.Kind2.TheVariants.{Access, Eap}
-use Rattle.agent_config.specs.declared.client.Client.{Client}
+use Rattle.agent_settings.specs.declared.client.Client.{Client}
 use Rattle.translation.specs.Heads.{is_eap}
 use Rattle.translation.specs.Judging.{is_foreign, reason_if, value_reason, kind_unless}
 use Rattle.translation.specs.declared.direction.Direction.TheVariants as direction

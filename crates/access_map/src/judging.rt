@@ -10,7 +10,7 @@ ghost use Rattle.translation.specs.Faults.{faults_in};
 ghost use Rattle.translation.specs.declared.direction.Direction.TheVariants.{Access};
 
 use crate::codes::{CHAP_PASSWORD, USER_PASSWORD};
-use agent_config::Client;
+use agent_settings::Client;
 use radius_packet::{Attribute, Packet, Reason, Seal};
 use session_carrier::Kind2;
 use translation::{Direction, Faults, is_eap};

@@ -8,7 +8,7 @@ ghost use Rattle.diameter_message.specs.Message.{IsMessage};
 ghost use Rattle.diameter_message.specs.Writer.{list_length, with_avps};
 ghost use Rattle.session_carrier.specs.Route.{route_view};
 ghost use Rattle.session_carrier.specs.declared.kept.Kind2.TheVariants as kind;
-ghost use Rattle.agent_config.specs.Config.{ClientInLimits};
+ghost use Rattle.agent_settings.specs.Config.{ClientInLimits};
 ghost use Rattle.translation.specs.declared.direction.Direction.TheVariants.{Access};
 ghost use Rattle.translation.specs.Values.{is_good, first_bad};
 ghost use Rattle.access_map.specs.Passing as passing;
@@ -17,7 +17,7 @@ ghost use Rattle.access_map.specs.Verdict.{is_bad_password, IsJudged};
 
 use crate::codes::{CHAP_PASSWORD, USER_PASSWORD};
 use crate::passwords::{put_chap_password, put_password};
-use agent_config::Client;
+use agent_settings::Client;
 use diameter_message::applications::NASREQ;
 use diameter_message::command_codes::AA;
 use diameter_message::command_flags::{PROXIABLE, REQUEST};

@@ -4,7 +4,7 @@ use Rattle.std.specs.List.{list_any}
 use Rattle.radius_packet.specs.Packet.{PacketParts, attributes_text}
 use Rattle.radius_packet.specs.declared.reasons.Reason.{Reason}
 use Rattle.session_carrier.specs.declared.kept.Kind2.{Kind2}
-use Rattle.agent_config.specs.declared.client.Client.{Client}
+use Rattle.agent_settings.specs.declared.client.Client.{Client}
 use Rattle.translation.specs.declared.direction.Direction.TheVariants.{Accounting}
 use Rattle.translation.specs.Values.{first_bad}
 use Rattle.translation.specs.Judging.{is_key_attribute, proxy_states, value_reason}

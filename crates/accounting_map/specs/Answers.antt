@@ -6,7 +6,7 @@ use Rattle.session_carrier.specs.declared.kept.Kind2.{Kind2}
 use Rattle.session_carrier.specs.declared.kept.Kind2.TheVariants.{Access, Eap, Start, Interim, Stop}
 use Rattle.session_carrier.specs.declared.kept.Numbers.{Numbers}
 use Rattle.session_carrier.specs.declared.kept.Outcome.{Outcome}
-use Rattle.agent_config.specs.declared.client.Client.{Client}
+use Rattle.agent_settings.specs.declared.client.Client.{Client}
 use Rattle.translation.specs.Acceptance.{is_accepted}
 use Rattle.translation.specs.Replies.{bare_reply}
 use Rattle.translation.specs.Termination.{termination_text}

@@ -8,7 +8,7 @@ use Rattle.radius_packet.specs.declared.reasons.Reason.{Reason}
 use Rattle.radius_packet.specs.declared.reasons.Reason.TheVariants.{BadAuthenticator, NasAddress, NoStatus, OnOff}
 use Rattle.session_carrier.specs.declared.kept.Kind2.{Kind2}
 use Rattle.session_carrier.specs.declared.kept.Kind2.TheVariants.{Start, Interim, Stop}
-use Rattle.agent_config.specs.declared.client.Client.{Client}
+use Rattle.agent_settings.specs.declared.client.Client.{Client}
 use Rattle.translation.specs.Judging.{is_foreign, reason_if, value_reason, kind_unless}
 use Rattle.translation.specs.declared.direction.Direction.TheVariants.{Accounting}
 use Rattle.accounting_map.specs.Numbers.{number_in}

@@ -4,12 +4,12 @@ ghost use Rattle.std.specs.Prelude.{◌≡◌, ◌≤◌, IfOk, IfSome, length};
 ghost use Rattle.std.specs.Option.{option_copied};
 ghost use Rattle.radius_packet.specs.Packet.{attributes_in, attributes_text};
 ghost use Rattle.diameter_message.specs.View.{message_view};
-ghost use Rattle.agent_config.specs.Config.{ClientInLimits};
+ghost use Rattle.agent_settings.specs.Config.{ClientInLimits};
 ghost use Rattle.translation.specs.Acceptance as acceptance;
 ghost use Rattle.translation.specs.Termination.{termination_text};
 ghost use Rattle.accounting_map.specs.Answers as specs;
 
-use agent_config::Client;
+use agent_settings::Client;
 use diameter_message::Message;
 use diameter_message::applications::NASREQ;
 use session_carrier::{Kept, Kind2, Numbers, Outcome};

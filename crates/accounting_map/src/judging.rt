@@ -6,7 +6,7 @@ ghost use Rattle.translation.specs.declared.direction.Direction.TheVariants.{Acc
 ghost use Rattle.accounting_map.specs.Verdict as specs;
 
 use crate::statuses::{ACCOUNTING_OFF, ACCOUNTING_ON, INTERIM_UPDATE, START, STOP, Statuses};
-use agent_config::Client;
+use agent_settings::Client;
 use radius_packet::{Packet, Reason};
 use session_carrier::Kind2;
 use translation::{Direction, Faults};

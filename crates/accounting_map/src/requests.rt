@@ -9,7 +9,7 @@ ghost use Rattle.diameter_message.specs.PlainAvps.{plain_avp};
 ghost use Rattle.diameter_message.specs.Writer.{list_length, with_avps, Puts};
 ghost use Rattle.session_carrier.specs.Route.{route_view};
 ghost use Rattle.session_carrier.specs.declared.kept.Kind2.{Kind2};
-ghost use Rattle.agent_config.specs.Config.{ClientInLimits};
+ghost use Rattle.agent_settings.specs.Config.{ClientInLimits};
 ghost use Rattle.translation.specs.declared.direction.Direction.TheVariants.{Accounting};
 ghost use Rattle.translation.specs.Values.{is_good, first_bad};
 ghost use Rattle.accounting_map.specs.Passing as passing;
@@ -23,7 +23,7 @@ use crate::codes::{
 use crate::numbers::number_in;
 use crate::records::{record_number, record_type, session_time, termination_cause, volume};
 use crate::statuses::status;
-use agent_config::Client;
+use agent_settings::Client;
 use diameter_message::applications::BASE_ACCOUNTING;
 use diameter_message::avp_codes::{
     ACCOUNTING_INPUT_OCTETS, ACCOUNTING_INPUT_PACKETS, ACCOUNTING_OUTPUT_OCTETS,

@@ -1,7 +1,5 @@
 mod FaultLemmas
 mod KeyLemmas
-pub mod Keyed
-pub mod Limits
 mod Settled
-pub mod Twice
+mod Twice
 mod ValueLemmas

@@ -3,10 +3,11 @@ use Rattle.std.proofs.Common.{◌≡◌, ℕ, ◌+◌, Bool, true, false, cond, 
 use Rattle.std.proofs.lemmas.Bool.{cases_Bool}
 use Rattle.std.proofs.lemmas.Option.{none-some}
 use Rattle.std.specs.List.{enumerate_from, find, list_any}
-use Rattle.agent_config.specs.declared.client.Client.{Client}
+use Rattle.agent_settings.specs.declared.client.Client.{Client}
 use Rattle.agent_config.specs.declared.fault.ConfigFault.TheVariants.{TwiceAddress}
-use Rattle.agent_config.specs.Config.{are_addresses_distinct, find_address, is_second, twice, DistinctUnlessTwice}
-use Rattle.agent_config.proofs.Limits.{distinct-push, find_from}
+use Rattle.agent_settings.specs.Config.{are_addresses_distinct, find_address}
+use Rattle.agent_config.specs.Twice.{is_second, twice, DistinctUnlessTwice}
+use Rattle.agent_settings.proofs.Limits.{distinct-push, find_from}
 
 -- the first that comes second, among those from a place on, and among all
 abbrev pub seconds_from : List Client → ℕ → List Client → Option (ℕ × Client)

@@ -1,4 +1,3 @@
-pub mod Config
-pub mod Keyed
 pub mod Settings
+pub mod Twice
 pub mod Values

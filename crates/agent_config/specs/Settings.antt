@@ -7,11 +7,12 @@ use Rattle.std.specs.Ordering.{is_lt, nat_cmp}
 use Rattle.std.specs.Str.{is_utf8}
 use Rattle.toml.specs.Data.{Data, Items, Members, no_members, member, get_member, as_bool, as_table}
 use Rattle.toml.specs.Parse.{parse_document}
-use Rattle.agent_config.specs.declared.client.Client.{Client}
-use Rattle.agent_config.specs.declared.config.Config.{Config}
+use Rattle.agent_settings.specs.declared.client.Client.{Client}
+use Rattle.agent_settings.specs.declared.config.Config.{Config}
 use Rattle.agent_config.specs.declared.fault.ConfigFault.{ConfigFault}
 use Rattle.agent_config.specs.declared.fault.ConfigFault.TheVariants.{NotToml, Missing, BadValue}
-use Rattle.agent_config.specs.Config.{twice, InLimits}
+use Rattle.agent_settings.specs.Config.{InLimits}
+use Rattle.agent_config.specs.Twice.{twice}
 use Rattle.agent_config.specs.Values.{each, name_of, secret_of, address_of, number_of, keys_choice_of, addresses_of, tables_of}
 
 -- ---- a key of a table

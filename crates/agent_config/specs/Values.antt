@@ -3,7 +3,7 @@ use Rattle.std.specs.Prelude.{ℕ, ℤ, pos, negsuc, ◌+◌, Bool, true, false,
 use Rattle.std.specs.Net.Reader.{read_ipv4}
 use Rattle.toml.specs.Data.{Data, Items, no_items, item, Members, as_str, as_integer, as_array, as_table}
 use Rattle.wire_core.specs.Numbers.{number}
-use Rattle.agent_config.specs.Config.{is_between, is_name}
+use Rattle.agent_settings.specs.Config.{is_between, is_name}
 
 -- what passes a test
 abbrev pub passed : {X : Type 0} → (X → Bool) → X → Option X

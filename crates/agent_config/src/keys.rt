@@ -9,11 +9,11 @@ ghost use Rattle.agent_config.specs.Values as values;
 ghost use Rattle.agent_config.specs.Settings.{at, needed, allowed, first_unknown, unknown};
 ghost use Rattle.agent_config.specs.declared.fault.ConfigFault.TheVariants as fault;
 
-use crate::address_list::AddressList;
 use crate::fault::ConfigFault;
 use crate::values::{
     address_in, addresses_in, keys_choice_in, name_in, number_in, secret_in, tables_in,
 };
+use agent_settings::AddressList;
 use std::alloc::Global;
 use toml::{Table, Value};
 use wire_core::Octets;

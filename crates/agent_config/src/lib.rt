@@ -1,24 +1,19 @@
-//! The settings of the agent: what they hold, and their limits.
+//! The settings of the agent, read from TOML.
 #![tactic(auto)]
 
-mod address_list;
-mod client;
-mod clients;
-mod config;
 mod fault;
+mod gathering;
 mod keys;
 mod laws;
 mod reading;
 mod values;
 
-pub use address_list::AddressList;
-pub use client::{Client, is_client_in_limits};
-pub use clients::Clients;
-pub use config::{Config, is_in_limits};
-pub use fault::ConfigFault;
-pub use laws::{
-    client_keeps_limits, clients_are_in_limits, distinct_unless_twice, found_stands_at_place,
-    settings_are_in_limits,
+pub use agent_settings::{
+    AddressList, Client, Clients, Config, client_keeps_limits, clients_are_in_limits,
+    found_stands_at_place, is_client_in_limits, is_in_limits,
 };
+pub use fault::ConfigFault;
+pub use gathering::clients_from;
+pub use laws::{distinct_unless_twice, settings_are_in_limits};
 pub use reading::read;
 pub use values::read_address;

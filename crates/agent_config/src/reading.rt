@@ -7,15 +7,13 @@ ghost use Rattle.agent_config.specs.Values.{each, number_of, tables_of};
 ghost use Rattle.agent_config.specs.Settings.{allowed, at, client_faults, client_of, clients_faults, first, identity_faults, name_faults, number_faults, origin_faults, rule_faults, settings_in, settled, tables_in, top_faults, top_of};
 ghost use Rattle.agent_config.specs.declared.fault.ConfigFault.TheVariants as fault;
 
-use crate::address_list::AddressList;
-use crate::client::Client;
-use crate::clients::Clients;
-use crate::config::Config;
 use crate::fault::ConfigFault;
+use crate::gathering::clients_from;
 use crate::keys::{
     address, addresses, client_tables, flag, keys_choice, name, name_or_none, no_others, number,
     secret,
 };
+use agent_settings::{AddressList, Client, Clients, Config};
 use std::alloc::Global;
 use toml::{Table, Value};
 use wire_core::Octets;
@@ -288,7 +286,7 @@ fn read_table(alloc: Global, table: &Table) -> Result<Config, ConfigFault>
 {
     let (mut config, tables) = read_top(alloc, table)?;
     let clients = read_clients(alloc, tables)?;
-    config.clients = Clients::from_vec(alloc, clients)?;
+    config.clients = clients_from(alloc, clients)?;
     Ok(config)
 }
 

@@ -5,8 +5,7 @@ ghost use Rattle.toml.specs.Data.{as_table};
 ghost use Rattle.toml.specs.View.{view, items_view};
 ghost use Rattle.agent_config.specs.Values as values;
 
-use crate::address_list::AddressList;
-use crate::client::is_name;
+use agent_settings::{AddressList, is_name};
 use std::alloc::Global;
 use std::net::Ipv4Addr;
 use toml::Value;

@@ -5,16 +5,16 @@ use Rattle.std.specs.List.{AllByRecursion, enumerate_from}
 use Rattle.std.proofs.lemmas.Bool.{lt-ltb, ltb-true}
 use Rattle.std.proofs.lemmas.List.{length-map}
 use Rattle.diameter_message.specs.Message.{MessageParts}
-use Rattle.agent_config.specs.declared.config.Config.{Config}
+use Rattle.agent_settings.specs.declared.config.Config.{Config}
 use Rattle.pending_table.specs.Table as table
 use Rattle.pending_table.specs.Table.{Row}
 use Rattle.peer_machine.specs.Step.{PeerParts, act_at, link_at, output_of, sent}
 use Rattle.peer_machine.specs.Rules.{after}
 use Rattle.peer_machine.specs.declared.words.LinkState.{LinkState}
 use Rattle.peer_machine.specs.declared.words.Event.{Event as LinkEvent}
-use Rattle.agent_core.specs.declared.events.Input.{Input}
-use Rattle.agent_core.specs.declared.events.Output.{Output}
-use Rattle.agent_core.specs.declared.events.Output.TheVariants.{Send}
+use Rattle.agent_events.specs.declared.events.Input.{Input}
+use Rattle.agent_events.specs.declared.events.Output.{Output}
+use Rattle.agent_events.specs.declared.events.Output.TheVariants.{Send}
 use Rattle.agent_core.specs.declared.ledger.Ledger.{Ledger}
 use Rattle.agent_core.specs.Settings.{names, numbers_of, end_number}
 use Rattle.agent_core.specs.Places.{Place, Taking, link, begins, opens, takings, match_of, reply_in, end_by, ends, live, waiting, used, outbox, total}

@@ -10,9 +10,9 @@ use Rattle.pending_table.specs.Table as table
 use Rattle.pending_table.specs.Table.{Row}
 use Rattle.peer_machine.specs.declared.words.Event.TheVariants.{Says}
 use Rattle.peer_machine.specs.Reading.{said_in}
-use Rattle.agent_core.specs.declared.events.Input.TheVariants.{Message}
-use Rattle.agent_core.specs.declared.events.Output.{Output}
-use Rattle.agent_core.specs.declared.events.Output.TheVariants.{Dropped}
+use Rattle.agent_events.specs.declared.events.Input.TheVariants.{Message}
+use Rattle.agent_events.specs.declared.events.Output.{Output}
+use Rattle.agent_events.specs.declared.events.Output.TheVariants.{Dropped}
 use Rattle.agent_core.specs.declared.ledger.Ledger.{Ledger}
 use Rattle.agent_core.specs.Places.{Place, Taking, waiting, is_application_request, is_base_request, is_first_request}
 use Rattle.agent_core.specs.History.{linked, answered, matches, command_of, outcome, outcome_outputs, next_numbers}

@@ -5,13 +5,13 @@ use Rattle.std.proofs.lemmas.Bool.{and_parts, eqb-true, eq-eqb, ne_eqb, lt-ltb}
 use Rattle.diameter_message.specs.declared.header.Header.{Header}
 use Rattle.diameter_message.specs.Message.{MessageParts}
 use Rattle.session_carrier.specs.declared.kept.Outcome.{Outcome}
-use Rattle.agent_config.specs.declared.config.Config.{Config}
+use Rattle.agent_settings.specs.declared.config.Config.{Config}
 use Rattle.pending_table.specs.declared.entry.Entry.{Entry}
 use Rattle.pending_table.specs.declared.key.Key.{Key}
 use Rattle.pending_table.specs.Table as table
 use Rattle.pending_table.specs.Table.{Row, update_first}
-use Rattle.agent_core.specs.declared.events.Output.{Output}
-use Rattle.agent_core.specs.declared.events.Output.TheVariants.{Send}
+use Rattle.agent_events.specs.declared.events.Output.{Output}
+use Rattle.agent_events.specs.declared.events.Output.TheVariants.{Send}
 use Rattle.agent_core.specs.declared.ledger.Ledger.{Ledger}
 use Rattle.agent_core.specs.Places.{Place, Taking, takings, with_taking, match_of, reply_in, is_at, end_by, ends, live, waiting, link, is_sent, header_of}
 use Rattle.agent_core.specs.History.{reply_outputs, outcome_outputs}

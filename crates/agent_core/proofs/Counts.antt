@@ -22,8 +22,8 @@ use Rattle.peer_machine.specs.declared.words.Act.{Act}
 use Rattle.peer_machine.specs.declared.words.Act.TheVariants.{Nothing, Serve, Discard, Pass, Close, Request, Answer, AnswerAndClose}
 use Rattle.peer_machine.specs.Messages.{command_of, details, request_header, request_text, answer_header, answer_avps, answer_text}
 use Rattle.peer_machine.specs.Step.{sent, answered, is_request as asks}
-use Rattle.agent_core.specs.declared.events.Output.{Output}
-use Rattle.agent_core.specs.declared.events.Output.TheVariants.{Send, Closed, Dropped}
+use Rattle.agent_events.specs.declared.events.Output.{Output}
+use Rattle.agent_events.specs.declared.events.Output.TheVariants.{Send, Closed, Dropped}
 use Rattle.agent_core.specs.Places.{Taking, header_of, is_sent, is_request, is_application_request, is_base_request, is_first_request}
 use Rattle.agent_core.specs.History.{again, resends}
 use Rattle.agent_core.specs.Machine.{count_of}

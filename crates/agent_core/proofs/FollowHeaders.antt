@@ -5,7 +5,7 @@ use Rattle.session_carrier.specs.declared.kept.Kept.{Kept}
 use Rattle.session_carrier.specs.declared.kept.Kind2.{Kind2}
 use Rattle.session_carrier.specs.declared.kept.Kind2.TheVariants.{Access, Eap, Start, Interim, Stop}
 use Rattle.session_carrier.specs.declared.kept.Numbers.{Numbers}
-use Rattle.agent_config.specs.declared.client.Client.{Client}
+use Rattle.agent_settings.specs.declared.client.Client.{Client}
 use Rattle.translation.specs.Answers.{application_of}
 use Rattle.translation.specs.Answers as access
 use Rattle.translation.specs.declared.service.Service.{Service}

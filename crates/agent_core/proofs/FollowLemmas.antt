@@ -7,7 +7,7 @@ use Rattle.diameter_message.specs.Message.{MessageParts}
 use Rattle.diameter_message.specs.Results.{is_success, result_code}
 use Rattle.session_carrier.specs.declared.kept.Kept.{Kept}
 use Rattle.session_carrier.specs.declared.kept.Numbers.{Numbers}
-use Rattle.agent_config.specs.declared.client.Client.{Client}
+use Rattle.agent_settings.specs.declared.client.Client.{Client}
 use Rattle.translation.specs.Answers.{application_of, bad_follow, class_of, follow_of, outcome, outcome_in}
 use Rattle.translation.specs.Reading.{first_identity}
 use Rattle.translation.specs.Termination.{termination_text}

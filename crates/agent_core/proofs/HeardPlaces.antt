@@ -3,7 +3,7 @@ use Rattle.std.proofs.Common.{◌≡◌, ℕ, ◌+◌, ◌%◌, true, false, con
 use Rattle.std.specs.Prelude.{count_by}
 use Rattle.std.specs.Option.{option_map_or, option_or}
 use Rattle.diameter_message.specs.Message.{MessageParts}
-use Rattle.agent_config.specs.declared.config.Config.{Config}
+use Rattle.agent_settings.specs.declared.config.Config.{Config}
 use Rattle.pending_table.specs.Table as table
 use Rattle.pending_table.specs.Table.{Row, TableParts}
 use Rattle.peer_machine.specs.declared.Phase.{Phase}
@@ -14,8 +14,8 @@ use Rattle.peer_machine.specs.declared.words.Act.TheVariants.{Pass}
 use Rattle.peer_machine.specs.Step.{PeerParts, link_at, is_request as asks}
 use Rattle.peer_machine.specs.Reading.{said_in}
 use Rattle.peer_machine.specs.Rules.{after}
-use Rattle.agent_core.specs.declared.events.Input.TheVariants.{Message}
-use Rattle.agent_core.specs.declared.events.Output.{Output}
+use Rattle.agent_events.specs.declared.events.Input.TheVariants.{Message}
+use Rattle.agent_events.specs.declared.events.Output.{Output}
 use Rattle.agent_core.specs.declared.ledger.Ledger.{Ledger}
 use Rattle.agent_core.specs.Links.{with_requests, without_requests}
 use Rattle.agent_core.specs.Places.{Place, Taking, link, opens, match_of, rank, used, base, outbox, total, waiting, live, is_sent, is_application_request, is_base_request, is_first_request}

@@ -1,7 +1,7 @@
 -- From one step to whole histories.
 use Rattle.std.proofs.Common.{◌≡◌, ℕ, ◌≤◌, List, [], ◌∷◌, ◌++◌, max, refl, sym, ◌∙◌, ap, subst, arith}
-use Rattle.agent_config.specs.declared.config.Config.{Config}
-use Rattle.agent_config.specs.Config.{FoundStandsAtPlace}
+use Rattle.agent_settings.specs.declared.config.Config.{Config}
+use Rattle.agent_settings.specs.Config.{FoundStandsAtPlace}
 use Rattle.agent_core.specs.declared.ledger.Ledger.{Ledger}
 use Rattle.agent_core.specs.Places.{Event, Place, now}
 use Rattle.agent_core.specs.History.{place, places, past, at_input}

@@ -13,8 +13,8 @@ use Rattle.session_carrier.specs.Route.{RouteParts}
 use Rattle.session_carrier.specs.declared.kept.Kind2.{Kind2}
 use Rattle.session_carrier.specs.declared.kept.Kind2.TheVariants.{Access, Eap, Start, Interim, Stop}
 use Rattle.session_carrier.specs.declared.kept.Numbers.{Numbers}
-use Rattle.agent_config.specs.declared.client.Client.{Client}
-use Rattle.agent_config.specs.Config.{ClientInLimits}
+use Rattle.agent_settings.specs.declared.client.Client.{Client}
+use Rattle.agent_settings.specs.Config.{ClientInLimits}
 use Rattle.translation.specs.Heads.{auth_head, auth_names, request_type}
 use Rattle.translation.specs.Names.{names, host_avps}
 use Rattle.translation.proofs.ClientLimits.{host_is_short, realm_is_short}

@@ -1,10 +1,10 @@
 -- Each input: the step is the place, and the past is sound with it.
 use Rattle.std.proofs.Common.{ℕ, List, refl}
-use Rattle.agent_config.specs.Config.{FoundStandsAtPlace}
+use Rattle.agent_settings.specs.Config.{FoundStandsAtPlace}
 use Rattle.peer_machine.specs.Reading.{said_in}
 use Rattle.peer_machine.specs.declared.words.Event.TheVariants.{Says}
-use Rattle.agent_core.specs.declared.events.Input.{Input}
-use Rattle.agent_core.specs.declared.events.Input.TheVariants.{Datagram, Up, Ready, Message, Broken, Down, Tick, Drain, Leave}
+use Rattle.agent_events.specs.declared.events.Input.{Input}
+use Rattle.agent_events.specs.declared.events.Input.TheVariants.{Datagram, Up, Ready, Message, Broken, Down, Tick, Drain, Leave}
 use Rattle.agent_core.specs.declared.ledger.Ledger.{Ledger}
 use Rattle.agent_core.specs.Places.{Place}
 use Rattle.agent_core.specs.Rooms.{rooms}

@@ -9,9 +9,9 @@ use Rattle.radius_packet.specs.declared.reasons.Reason.{Reason}
 use Rattle.radius_packet.specs.declared.reasons.Reason.TheVariants.{OnOff, NoStatus}
 use Rattle.session_carrier.specs.declared.kept.Kind2.{Kind2}
 use Rattle.session_carrier.specs.declared.kept.Kind2.TheVariants.{Access, Eap, Start, Interim, Stop}
-use Rattle.agent_config.specs.Config.{ClientInLimits}
-use Rattle.agent_config.specs.declared.client.Client.{Client}
-use Rattle.agent_config.specs.declared.config.Config.{Config}
+use Rattle.agent_settings.specs.Config.{ClientInLimits}
+use Rattle.agent_settings.specs.declared.client.Client.{Client}
+use Rattle.agent_settings.specs.declared.config.Config.{Config}
 use Rattle.translation.specs.Heads.{is_eap}
 use Rattle.translation.specs.Judging.{proxy_states}
 use Rattle.access_map.specs.Verdict as access

@@ -12,9 +12,9 @@ use Rattle.session_carrier.specs.Carriers.{CarriedParts}
 use Rattle.session_carrier.specs.Session.{FreshSessionsAreShort}
 use Rattle.session_carrier.specs.declared.kept.Kept.{Kept}
 use Rattle.session_carrier.specs.declared.kept.Numbers.{Numbers}
-use Rattle.agent_config.specs.declared.client.Client.{Client}
-use Rattle.agent_config.specs.declared.config.Config.{Config}
-use Rattle.agent_config.specs.Config.{InLimits, ClientInLimits, ClientsAreInLimits, FoundStandsAtPlace}
+use Rattle.agent_settings.specs.declared.client.Client.{Client}
+use Rattle.agent_settings.specs.declared.config.Config.{Config}
+use Rattle.agent_settings.specs.Config.{InLimits, ClientInLimits, ClientsAreInLimits, FoundStandsAtPlace}
 use Rattle.translation.specs.Judging.{proxy_states}
 use Rattle.translation.specs.Routes.{carried_state}
 use Rattle.agent_core.specs.Settings.{boot}

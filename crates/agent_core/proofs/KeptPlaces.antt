@@ -5,13 +5,13 @@ use Rattle.radius_packet.specs.declared.reasons.Reason.{Reason}
 use Rattle.radius_packet.specs.declared.reasons.Via.{Via}
 use Rattle.diameter_message.specs.Message.{MessageParts, read_message}
 use Rattle.diameter_message.specs.declared.fault.MessageFault.{MessageFault}
-use Rattle.agent_config.specs.declared.config.Config.{Config}
+use Rattle.agent_settings.specs.declared.config.Config.{Config}
 use Rattle.pending_table.specs.Table.{same_key}
 use Rattle.peer_machine.specs.Reading.{said_in}
 use Rattle.peer_machine.specs.Step.{is_pass}
 use Rattle.peer_machine.specs.declared.words.Event.TheVariants.{Says}
-use Rattle.agent_core.specs.declared.events.Input.{Input}
-use Rattle.agent_core.specs.declared.events.Input.TheVariants.{Datagram, Up, Ready, Message, Broken, Down, Tick, Drain, Leave}
+use Rattle.agent_events.specs.declared.events.Input.{Input}
+use Rattle.agent_events.specs.declared.events.Input.TheVariants.{Datagram, Up, Ready, Message, Broken, Down, Tick, Drain, Leave}
 use Rattle.agent_core.specs.Verdict.{Request, verdict}
 use Rattle.agent_core.specs.Rooms.{rooms, refusal}
 use Rattle.agent_core.specs.Places.{Event, Place, Taking, now, takings, with_taking, serial, live, waiting}

@@ -5,10 +5,10 @@ use Rattle.std.specs.List.{enumerate_from}
 use Rattle.std.proofs.lemmas.List.{length-append, length-map}
 use Rattle.std.proofs.lemmas.List.FromFn.{length-enumerate_from}
 use Rattle.diameter_message.specs.Message.{MessageParts}
-use Rattle.agent_config.specs.declared.config.Config.{Config}
+use Rattle.agent_settings.specs.declared.config.Config.{Config}
 use Rattle.pending_table.specs.declared.key.Key.{Key}
 use Rattle.peer_machine.specs.declared.words.Event.{Event as LinkEvent}
-use Rattle.agent_core.specs.declared.events.Input.{Input}
+use Rattle.agent_events.specs.declared.events.Input.{Input}
 use Rattle.agent_core.specs.Places.{Place, Taking, now, link, is_serving, waiting, answer_to}
 use Rattle.agent_core.specs.History.{repeated, resends, resent_by, link_after, link_output, link_outputs, linked, outcome, next_numbers, past}
 use Rattle.agent_core.specs.LawsOfSends.{most_resent, OutputsAreFew}

@@ -7,7 +7,7 @@ use Rattle.radius_packet.specs.declared.reasons.Reason.TheVariants as reasons
 use Rattle.diameter_message.specs.declared.header.Header.{Header}
 use Rattle.diameter_message.specs.declared.fault.MessageFault.{MessageFault}
 use Rattle.diameter_message.specs.Message.{MessageParts, read_message}
-use Rattle.agent_config.specs.declared.config.Config.{Config}
+use Rattle.agent_settings.specs.declared.config.Config.{Config}
 use Rattle.pending_table.specs.Table.{same_key}
 use Rattle.peer_machine.specs.declared.words.Event.{Event as LinkEvent}
 use Rattle.peer_machine.specs.declared.words.Event.TheVariants.{Opens, Serves, Says, Breaks, Ends, Ticks, Leaves}
@@ -15,14 +15,15 @@ use Rattle.peer_machine.specs.declared.words.Act.{Act}
 use Rattle.peer_machine.specs.Rules.{may_begin, after}
 use Rattle.peer_machine.specs.Step.{PeerParts, act_at, link_at, output_of, sent, is_pass}
 use Rattle.peer_machine.specs.Reading.{said_in}
-use Rattle.agent_core.specs.declared.events.Input.{Input}
-use Rattle.agent_core.specs.declared.events.Input.TheVariants.{Datagram, Up, Ready, Message, Broken, Down, Tick, Drain, Leave}
-use Rattle.agent_core.specs.declared.events.Output.{Output}
-use Rattle.agent_core.specs.declared.events.Output.TheVariants.{Dropped}
+use Rattle.agent_events.specs.declared.events.Input.{Input}
+use Rattle.agent_events.specs.declared.events.Input.TheVariants.{Datagram, Up, Ready, Message, Broken, Down, Tick, Drain, Leave}
+use Rattle.agent_events.specs.declared.events.Output.{Output}
+use Rattle.agent_events.specs.declared.events.Output.TheVariants.{Dropped}
 use Rattle.agent_core.specs.Settings.{names, end_number}
 use Rattle.agent_core.specs.Links.{LinkAt, with_requests, without_requests}
 use Rattle.agent_core.specs.Verdict.{Request, verdict}
-use Rattle.agent_core.specs.Places.{Event, Place, Taking, now, link, begins, opens, takings, with_taking, is_at, match_of, answer_to, reply_in, end_by, ends, live, waiting, hop_at, number, sends, sent_on_link, used, base, is_drain, outbox, total, serial, is_application_request, is_base_request, is_first_request}
+use Rattle.agent_core.specs.Places.{Event, Place, Taking, now, link, begins, opens, takings, with_taking, is_at, match_of, answer_to, reply_in, end_by, ends, live, waiting, hop_at, number, sends, sent_on_link, used, base, outbox, total, serial, is_application_request, is_base_request, is_first_request}
+use Rattle.agent_events.specs.Kinds.{is_drain}
 use Rattle.agent_core.specs.Rooms.{rooms, refusal, has_spare}
 use Rattle.agent_core.specs.Requests.{request_sent, kept_of}
 use Rattle.agent_core.specs.History.{at_input, place, places, past, still, taking_of, taking_place, admitted, repeated, requested, datagram, peer, link_act, link_outputs, resends, linked, answered, heard, messaged, matches, is_number, command_of, next_numbers, outcome, outcome_outputs, outputs_after}

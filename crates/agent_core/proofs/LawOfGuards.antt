@@ -14,8 +14,8 @@ use Rattle.session_carrier.specs.declared.kept.Kept.{Kept}
 use Rattle.session_carrier.specs.declared.kept.Kind2.{Kind2}
 use Rattle.session_carrier.specs.declared.kept.Kind2.TheVariants.{Access, Eap, Start, Interim, Stop}
 use Rattle.session_carrier.specs.declared.kept.Numbers.{Numbers}
-use Rattle.agent_config.specs.declared.config.Config.{Config}
-use Rattle.agent_config.specs.declared.client.Client.{Client}
+use Rattle.agent_settings.specs.declared.config.Config.{Config}
+use Rattle.agent_settings.specs.declared.client.Client.{Client}
 use Rattle.translation.specs.Acceptance.{is_accepted}
 use Rattle.translation.specs.Answers as access
 use Rattle.translation.specs.Answers.{class_of, class_by_avps, class_that_fits, class_of_kind, is_error, is_of_other_session, has_refused_key, is_stateless, outcome_in}
@@ -27,9 +27,9 @@ use Rattle.accounting_map.specs.Answers as accounting
 use Rattle.accounting_map.specs.Answers.{reply_if}
 use Rattle.peer_machine.specs.declared.words.Event.TheVariants.{Says}
 use Rattle.peer_machine.specs.Reading.{said_in}
-use Rattle.agent_core.specs.declared.events.Input.{Input}
-use Rattle.agent_core.specs.declared.events.Input.TheVariants.{Message}
-use Rattle.agent_core.specs.declared.events.Output.TheVariants.{Send, Dropped}
+use Rattle.agent_events.specs.declared.events.Input.{Input}
+use Rattle.agent_events.specs.declared.events.Input.TheVariants.{Message}
+use Rattle.agent_events.specs.declared.events.Output.TheVariants.{Send, Dropped}
 use Rattle.agent_core.specs.Places.{Place, Taking, now, answer_to}
 use Rattle.agent_core.specs.History.{at_input, past, still, repeated, linked, link_output, answered, outcome, reply_outputs, next_numbers}
 use Rattle.agent_core.specs.LawsOfRequests.{Guarded, IsGuarded, IsAccepted, Accepts, come_again}

@@ -6,10 +6,10 @@ use Rattle.std.specs.Cmp.Lexicographic.{bytes_decides}
 use Rattle.std.proofs.lemmas.Bool.{eq-eqb, ltb-false, and_from}
 use Rattle.radius_packet.specs.declared.reasons.Via.{Via}
 use Rattle.radius_packet.specs.declared.reasons.Via.TheVariants.{Auth, Acct}
-use Rattle.agent_config.specs.declared.config.Config.{Config}
+use Rattle.agent_settings.specs.declared.config.Config.{Config}
 use Rattle.pending_table.specs.declared.key.Key.{Key}
 use Rattle.pending_table.specs.Table.{same_via, same_key}
-use Rattle.agent_core.specs.declared.events.Input.{Input}
+use Rattle.agent_events.specs.declared.events.Input.{Input}
 use Rattle.agent_core.specs.Places.{Place, Taking, now, takings, ends, live}
 use Rattle.agent_core.specs.History.{at_input, taking_of, past}
 use Rattle.agent_core.specs.LawsOfRequests.{Apart, ComesApart}

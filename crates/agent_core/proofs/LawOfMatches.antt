@@ -10,7 +10,7 @@ use Rattle.session_carrier.specs.declared.kept.Kind2.{Kind2}
 use Rattle.session_carrier.specs.declared.kept.Kind2.TheVariants.{Access, Eap, Start, Interim, Stop}
 use Rattle.session_carrier.specs.declared.kept.Outcome.{Outcome}
 use Rattle.pending_table.specs.declared.key.Key.{Key}
-use Rattle.agent_config.specs.declared.config.Config.{Config}
+use Rattle.agent_settings.specs.declared.config.Config.{Config}
 use Rattle.peer_machine.specs.declared.Phase.{Phase}
 use Rattle.peer_machine.specs.declared.Phase.TheVariants.{Closed, Greeting, Serving, Closing}
 use Rattle.peer_machine.specs.declared.words.Act.{Act}
@@ -23,9 +23,9 @@ use Rattle.peer_machine.specs.Step.{is_pass}
 use Rattle.peer_machine.specs.Reading.{said_in, answer_said, request_said, is_application_command}
 use Rattle.diameter_avp.specs.Avps.{read_avps}
 use Rattle.diameter_message.specs.Results.{result_in}
-use Rattle.agent_core.specs.declared.events.Input.{Input}
-use Rattle.agent_core.specs.declared.events.Input.TheVariants.{Message}
-use Rattle.agent_core.specs.declared.events.Output.TheVariants.{Reply, Send}
+use Rattle.agent_events.specs.declared.events.Input.{Input}
+use Rattle.agent_events.specs.declared.events.Input.TheVariants.{Message}
+use Rattle.agent_events.specs.declared.events.Output.TheVariants.{Reply, Send}
 use Rattle.agent_core.specs.Places.{Event, Place, Taking, now, link, is_at, match_of, live, waiting, is_request}
 use Rattle.agent_core.specs.History.{at_input, place, past, linked, answered, heard, messaged, matches, command_of, link_act, outcome, outcome_outputs, reply_outputs, next_numbers}
 use Rattle.agent_core.specs.Rooms.{has_spare}

@@ -9,19 +9,19 @@ use Rattle.radius_packet.specs.declared.reasons.Reason.TheVariants as reasons
 use Rattle.radius_packet.specs.declared.fault.PacketFault.{PacketFault}
 use Rattle.radius_packet.specs.Packet.{PacketParts, read_packet}
 use Rattle.session_carrier.specs.declared.kept.Kind2.{Kind2}
-use Rattle.agent_config.specs.declared.config.Config.{Config}
-use Rattle.agent_config.specs.declared.client.Client.{Client}
-use Rattle.agent_config.specs.Config.{find_address}
+use Rattle.agent_settings.specs.declared.config.Config.{Config}
+use Rattle.agent_settings.specs.declared.client.Client.{Client}
+use Rattle.agent_settings.specs.Config.{find_address}
 use Rattle.pending_table.specs.declared.key.Key.{Key}
 use Rattle.pending_table.specs.Table.{same_key}
 use Rattle.peer_machine.specs.declared.LinkCause.{LinkCause}
 use Rattle.peer_machine.specs.Reading.{said_in}
 use Rattle.peer_machine.specs.declared.words.Event.TheVariants.{Says}
 use Rattle.peer_machine.specs.declared.peer.PeerOutput.{PeerOutput}
-use Rattle.agent_core.specs.declared.events.Input.{Input}
-use Rattle.agent_core.specs.declared.events.Input.TheVariants.{Datagram, Up, Ready, Message, Broken, Down, Tick, Drain, Leave}
-use Rattle.agent_core.specs.declared.events.Output.{Output}
-use Rattle.agent_core.specs.declared.events.Output.TheVariants.{Reply, Send, Dropped, Closed}
+use Rattle.agent_events.specs.declared.events.Input.{Input}
+use Rattle.agent_events.specs.declared.events.Input.TheVariants.{Datagram, Up, Ready, Message, Broken, Down, Tick, Drain, Leave}
+use Rattle.agent_events.specs.declared.events.Output.{Output}
+use Rattle.agent_events.specs.declared.events.Output.TheVariants.{Reply, Send, Dropped, Closed}
 use Rattle.agent_core.specs.Verdict.{Request, verdict, judged, packet_verdict, client_verdict, kind_at, code_at, key_of}
 use Rattle.agent_core.specs.Places.{Event, Place, Taking, now, takings, is_at, match_of, answer_to, reply_in, ends, live, waiting}
 use Rattle.agent_core.specs.History.{at_input, place, past, repeated, link_output, link_outputs, resends, again, reply_outputs, outcome_outputs, matches, linked, answered, taking_of, outcome, next_numbers}

@@ -1,6 +1,6 @@
 -- There is room for what waits.
 use Rattle.std.proofs.Common.{◌≡◌, List, length, subst, arith}
-use Rattle.agent_config.specs.declared.config.Config.{Config}
+use Rattle.agent_settings.specs.declared.config.Config.{Config}
 use Rattle.agent_core.specs.Places.{Place, now, waiting}
 use Rattle.agent_core.specs.Machine.{kept_waiting}
 use Rattle.agent_core.specs.LawsOfSends.{LeavesRoom, RoomIsLeft}

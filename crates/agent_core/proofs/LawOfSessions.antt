@@ -9,8 +9,8 @@ use Rattle.std.proofs.lemmas.List.Elements.{filter-append}
 use Rattle.session_carrier.specs.Carriers.{CarriedParts}
 use Rattle.session_carrier.specs.Session.{fresh_session}
 use Rattle.session_carrier.proofs.Sessions.{fresh_sessions_differ}
-use Rattle.agent_config.specs.declared.config.Config.{Config}
-use Rattle.agent_core.specs.declared.events.Input.{Input}
+use Rattle.agent_settings.specs.declared.config.Config.{Config}
+use Rattle.agent_events.specs.declared.events.Input.{Input}
 use Rattle.agent_core.specs.Settings.{boot}
 use Rattle.agent_core.specs.Verdict.{Request}
 use Rattle.agent_core.specs.Places.{Event, Place, Taking, now, takings, serial}

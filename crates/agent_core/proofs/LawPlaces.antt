@@ -5,17 +5,17 @@ use Rattle.radius_packet.specs.declared.reasons.Reason.{Reason}
 use Rattle.radius_packet.specs.declared.reasons.Reason.TheVariants as reasons
 use Rattle.diameter_message.specs.declared.fault.MessageFault.{MessageFault}
 use Rattle.diameter_message.specs.Message.{MessageParts, read_message}
-use Rattle.agent_config.specs.declared.config.Config.{Config}
-use Rattle.agent_config.specs.Config.{InLimits}
-use Rattle.agent_config.proofs.Limits.{found_stands_at_place}
+use Rattle.agent_settings.specs.declared.config.Config.{Config}
+use Rattle.agent_settings.specs.Config.{InLimits}
+use Rattle.agent_settings.proofs.Limits.{found_stands_at_place}
 use Rattle.pending_table.specs.Table.{same_key}
 use Rattle.peer_machine.specs.declared.words.Event.{Event as LinkEvent}
 use Rattle.peer_machine.specs.declared.words.Event.TheVariants.{Opens, Serves, Says, Breaks, Ends, Ticks, Leaves}
 use Rattle.peer_machine.specs.Step.{is_pass}
 use Rattle.peer_machine.specs.Reading.{said_in}
-use Rattle.agent_core.specs.declared.events.Input.{Input}
-use Rattle.agent_core.specs.declared.events.Input.TheVariants.{Datagram, Up, Ready, Message, Broken, Down, Tick, Drain, Leave}
-use Rattle.agent_core.specs.declared.events.Output.TheVariants.{Dropped}
+use Rattle.agent_events.specs.declared.events.Input.{Input}
+use Rattle.agent_events.specs.declared.events.Input.TheVariants.{Datagram, Up, Ready, Message, Broken, Down, Tick, Drain, Leave}
+use Rattle.agent_events.specs.declared.events.Output.TheVariants.{Dropped}
 use Rattle.agent_core.specs.Verdict.{Request, verdict}
 use Rattle.agent_core.specs.Places.{Event, Place, Taking, begins, live, waiting, answer_to}
 use Rattle.agent_core.specs.Rooms.{rooms, refusal}

@@ -2,9 +2,9 @@
 use Rattle.std.proofs.Common.{◌≡◌, ℕ, ◌<◌, ◌≤◌, true, length, List, arith}
 use Rattle.std.specs.Prelude.{IsTrue}
 use Rattle.std.proofs.lemmas.Bool.{and_parts, leb-true}
-use Rattle.agent_config.specs.declared.config.Config.{Config}
-use Rattle.agent_config.specs.Config.{are_settings_in_limits, is_name}
-use Rattle.agent_config.proofs.Limits.{settings_facts}
+use Rattle.agent_settings.specs.declared.config.Config.{Config}
+use Rattle.agent_settings.specs.Config.{are_settings_in_limits, is_name}
+use Rattle.agent_settings.proofs.Limits.{settings_facts}
 
 pub record Limits (config : Config) : Type 0 where
   pub host : length config.host ≤ 64

@@ -4,18 +4,19 @@ use Rattle.std.specs.Prelude.{count_by, is_some}
 use Rattle.std.specs.List.{AllByRecursion}
 use Rattle.diameter_message.specs.declared.header.Header.{Header}
 use Rattle.diameter_message.specs.Message.{MessageParts}
-use Rattle.agent_config.specs.declared.config.Config.{Config}
+use Rattle.agent_settings.specs.declared.config.Config.{Config}
 use Rattle.pending_table.specs.Table as table
 use Rattle.pending_table.specs.Table.{TableParts}
 use Rattle.peer_machine.specs.Step.{PeerParts, link_at, is_request as asks}
 use Rattle.peer_machine.specs.declared.words.LinkState.{LinkState}
 use Rattle.peer_machine.specs.declared.words.Event.{Event as LinkEvent}
 use Rattle.peer_machine.specs.declared.peer.PeerOutput.{PeerOutput}
-use Rattle.agent_core.specs.declared.events.Input.{Input}
+use Rattle.agent_events.specs.declared.events.Input.{Input}
 use Rattle.agent_core.specs.declared.ledger.Ledger.{Ledger}
 use Rattle.agent_core.specs.Settings.{names, end_number}
 use Rattle.agent_core.specs.Links.{with_requests, without_requests}
-use Rattle.agent_core.specs.Places.{Place, Taking, link, begins, opens, sends, is_sent, is_drain, used, base, outbox, total, live, waiting, takings, is_application_request, is_base_request, is_first_request}
+use Rattle.agent_core.specs.Places.{Place, Taking, link, begins, opens, sends, is_sent, used, base, outbox, total, live, waiting, takings, is_application_request, is_base_request, is_first_request}
+use Rattle.agent_events.specs.Kinds.{is_drain}
 use Rattle.agent_core.specs.History.{peer, linked, link_act, link_after, link_output, link_outputs, resends}
 use Rattle.agent_core.specs.Machine.{count_of, begins_by, peer_then, link_then, opens_then, output_for, on_link, resent_count, kept_resends, table_relinked}
 use Rattle.agent_core.specs.Standing.{StandsAt, row_of}

@@ -10,7 +10,7 @@ use Rattle.peer_machine.specs.declared.peer.PeerOutput.{PeerOutput}
 use Rattle.peer_machine.specs.Step.{PeerParts, event_of, message_in, output_at, peer_after}
 use Rattle.pending_table.specs.Table as table
 use Rattle.pending_table.specs.Table.{Row}
-use Rattle.agent_core.specs.declared.events.Output.{Output}
+use Rattle.agent_events.specs.declared.events.Output.{Output}
 use Rattle.agent_core.specs.declared.ledger.Ledger.{Ledger}
 use Rattle.agent_core.specs.Settings.{end_number}
 use Rattle.agent_core.specs.Places.{opens}

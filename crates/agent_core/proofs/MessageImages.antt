@@ -8,7 +8,7 @@ use Rattle.session_carrier.specs.Route.{RouteParts}
 use Rattle.session_carrier.specs.declared.kept.Kind2.{Kind2}
 use Rattle.session_carrier.specs.declared.kept.Kind2.TheVariants.{Start, Interim, Stop}
 use Rattle.session_carrier.specs.declared.kept.Numbers.{Numbers}
-use Rattle.agent_config.specs.declared.client.Client.{Client}
+use Rattle.agent_settings.specs.declared.client.Client.{Client}
 use Rattle.accounting_map.specs.Requests as accounting
 use Rattle.agent_core.specs.Fits.{header_by}
 use Rattle.agent_core.specs.Requests.{image}

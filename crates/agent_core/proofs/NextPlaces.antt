@@ -8,12 +8,13 @@ use Rattle.peer_machine.specs.Reading.{said_in}
 use Rattle.peer_machine.specs.Step.{is_pass}
 use Rattle.peer_machine.specs.declared.words.Event.{Event as LinkEvent}
 use Rattle.peer_machine.specs.declared.words.Event.TheVariants.{Opens, Serves, Says, Breaks, Ends, Ticks, Leaves}
-use Rattle.agent_core.specs.declared.events.Input.{Input}
-use Rattle.agent_core.specs.declared.events.Input.TheVariants.{Datagram, Up, Ready, Message, Broken, Down, Tick, Drain, Leave}
-use Rattle.agent_core.specs.declared.events.Output.TheVariants.{Dropped}
+use Rattle.agent_events.specs.declared.events.Input.{Input}
+use Rattle.agent_events.specs.declared.events.Input.TheVariants.{Datagram, Up, Ready, Message, Broken, Down, Tick, Drain, Leave}
+use Rattle.agent_events.specs.declared.events.Output.TheVariants.{Dropped}
 use Rattle.agent_core.specs.declared.ledger.Ledger.{Ledger}
 use Rattle.agent_core.specs.Verdict.{verdict}
-use Rattle.agent_core.specs.Places.{Event, Place, now, waiting, begins, is_drain}
+use Rattle.agent_core.specs.Places.{Event, Place, now, waiting, begins}
+use Rattle.agent_events.specs.Kinds.{is_drain}
 use Rattle.agent_core.specs.History.{place, at_input, still, messaged, heard, answered, linked, link_act, matches, peer}
 use Rattle.agent_core.specs.Machine.{Next, next, says, drained, begins_by, on_input, on_message, on_answer, on_link, passes, at_moment, purged}
 use Rattle.agent_core.specs.Standing.{StandsAt}

@@ -2,7 +2,7 @@
 use Rattle.std.proofs.Common.{◌≡◌, ℕ, false, cond, List, [], ◌∷◌, map, filter, Option, Some, None, refl, ◌∙◌, ap}
 use Rattle.std.specs.Option.{option_map_or}
 use Rattle.std.specs.Prelude.{nat_lt}
-use Rattle.agent_config.specs.declared.config.Config.{Config}
+use Rattle.agent_settings.specs.declared.config.Config.{Config}
 use Rattle.pending_table.specs.Table.{Row}
 use Rattle.agent_core.specs.Places.{Place, Taking, takings, with_taking, match_of, is_at, hop_at, rank, ends, end_by, live}
 use Rattle.agent_core.specs.Standing.{last_sent, answer_in, row_of, entry_of}

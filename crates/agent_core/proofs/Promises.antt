@@ -1,9 +1,9 @@
 -- A core keeps its promise from step to step.
 use Rattle.std.proofs.Common.{◌≡◌, ◌<◌, ◌^◌, List, [], ◌∷◌, ◌++◌, sym, ◌∙◌, ap, subst}
 use Rattle.std.specs.Prelude.{IfSome, Result, Ok, Err, OnOk, OnErr, IfOk}
-use Rattle.agent_config.specs.declared.config.Config.{Config}
-use Rattle.agent_config.specs.Config.{InLimits}
-use Rattle.agent_core.specs.declared.events.Output.{Output}
+use Rattle.agent_settings.specs.declared.config.Config.{Config}
+use Rattle.agent_settings.specs.Config.{InLimits}
+use Rattle.agent_events.specs.declared.events.Output.{Output}
 use Rattle.agent_core.specs.declared.ledger.Ledger.{Ledger}
 use Rattle.agent_core.specs.Places.{Event}
 use Rattle.agent_core.specs.History.{outputs_after}

@@ -3,7 +3,7 @@ use Rattle.std.proofs.Common.{◌≡◌, ◌≢◌, ◌+◌, ◌≤◌, Bool, tr
 use Rattle.std.specs.Prelude.{◌==◌}
 use Rattle.radius_packet.specs.declared.reasons.Reason.TheVariants.{LinkDown, Spent, Full, Backlog}
 use Rattle.std.proofs.lemmas.Bool.{not-false, ltb-false, eqb-false}
-use Rattle.agent_config.specs.declared.config.Config.{Config}
+use Rattle.agent_settings.specs.declared.config.Config.{Config}
 use Rattle.agent_core.specs.Places.{is_serving}
 use Rattle.agent_core.specs.Rooms.{Rooms, refusal, is_spent, is_backed_up}
 

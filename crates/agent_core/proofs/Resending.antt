@@ -6,8 +6,8 @@ use Rattle.pending_table.specs.declared.entry.Answer.{Answer}
 use Rattle.pending_table.specs.declared.entry.Answer.TheVariants.{Waiting, Silent, Replied}
 use Rattle.pending_table.specs.Table as table
 use Rattle.pending_table.specs.Table.{Row}
-use Rattle.agent_core.specs.declared.events.Output.{Output}
-use Rattle.agent_core.specs.declared.events.Output.TheVariants.{Send}
+use Rattle.agent_events.specs.declared.events.Output.{Output}
+use Rattle.agent_events.specs.declared.events.Output.TheVariants.{Send}
 use Rattle.agent_core.specs.declared.ledger.Ledger.{Ledger}
 use Rattle.agent_core.specs.History.{again}
 use Rattle.agent_core.specs.Machine.{kept_waiting, kept_resends, row_again}

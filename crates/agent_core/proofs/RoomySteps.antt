@@ -4,7 +4,7 @@ use Rattle.std.specs.Prelude.{◌==◌, slice_get}
 use Rattle.radius_packet.specs.declared.reasons.Reason.{Reason}
 use Rattle.diameter_message.specs.declared.fault.MessageFault.{MessageFault}
 use Rattle.diameter_message.specs.Message.{MessageParts, read_message}
-use Rattle.agent_config.specs.declared.client.Client.{Client}
+use Rattle.agent_settings.specs.declared.client.Client.{Client}
 use Rattle.pending_table.specs.Table as table
 use Rattle.pending_table.specs.Table.{Row}
 use Rattle.peer_machine.specs.declared.Phase.TheVariants.{Greeting}
@@ -14,9 +14,9 @@ use Rattle.peer_machine.specs.declared.words.Act.TheVariants.{Nothing, Serve, Di
 use Rattle.peer_machine.specs.Step.{is_pass, link_at}
 use Rattle.peer_machine.specs.Reading.{said_in}
 use Rattle.peer_machine.specs.Rules.{after}
-use Rattle.agent_core.specs.declared.events.Input.{Input}
-use Rattle.agent_core.specs.declared.events.Input.TheVariants.{Datagram, Up, Ready, Message, Broken, Down, Tick, Drain, Leave}
-use Rattle.agent_core.specs.declared.events.Output.{Output}
+use Rattle.agent_events.specs.declared.events.Input.{Input}
+use Rattle.agent_events.specs.declared.events.Input.TheVariants.{Datagram, Up, Ready, Message, Broken, Down, Tick, Drain, Leave}
+use Rattle.agent_events.specs.declared.events.Output.{Output}
 use Rattle.agent_core.specs.declared.ledger.Ledger.{Ledger}
 use Rattle.agent_core.specs.History.{command_of}
 use Rattle.agent_core.specs.Verdict.{Request as Asked, verdict}

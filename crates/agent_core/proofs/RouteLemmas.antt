@@ -10,9 +10,9 @@ use Rattle.wire_core.specs.Words.{is_identity}
 use Rattle.session_carrier.specs.Carriers.{CarriedParts, IsState, read_class}
 use Rattle.session_carrier.proofs.CarrierLemmas as carriers
 use Rattle.session_carrier.proofs.Sessions as sessions
-use Rattle.agent_config.specs.declared.client.Client.{Client}
-use Rattle.agent_config.specs.declared.config.Config.{Config}
-use Rattle.agent_config.specs.Config.{is_client_in_limits, InLimits, ClientInLimits}
+use Rattle.agent_settings.specs.declared.client.Client.{Client}
+use Rattle.agent_settings.specs.declared.config.Config.{Config}
+use Rattle.agent_settings.specs.Config.{is_client_in_limits, InLimits, ClientInLimits}
 use Rattle.translation.specs.declared.direction.Direction.TheVariants.{Access, Accounting}
 use Rattle.translation.specs.Images.{is_carrier}
 use Rattle.translation.specs.Routes.{behind_last_at, identity, realm_in, is_user_name, name_realm, carried_state, carried_class}

@@ -2,13 +2,14 @@
 use Rattle.std.proofs.Common.{◌≡◌, ℕ, ◌+◌, ◌%◌, Bool, true, false, cond, List, [], ◌∷◌, refl, sym, ◌∙◌, ap, arith}
 use Rattle.std.specs.Prelude.{count_by}
 use Rattle.radius_packet.specs.declared.reasons.Reason.{Reason}
-use Rattle.agent_core.specs.declared.events.Input.{Input}
-use Rattle.agent_core.specs.declared.events.Input.TheVariants.{Drain}
-use Rattle.agent_core.specs.declared.events.Output.{Output}
-use Rattle.agent_core.specs.declared.events.Output.TheVariants.{Dropped}
+use Rattle.agent_events.specs.declared.events.Input.{Input}
+use Rattle.agent_events.specs.declared.events.Input.TheVariants.{Drain}
+use Rattle.agent_events.specs.declared.events.Output.{Output}
+use Rattle.agent_events.specs.declared.events.Output.TheVariants.{Dropped}
 use Rattle.agent_core.specs.declared.ledger.Ledger.{Ledger}
 use Rattle.agent_core.specs.Links.{with_requests}
-use Rattle.agent_core.specs.Places.{Place, link, begins, used, base, outbox, total, is_sent, sends, is_drain, is_application_request, is_base_request, is_first_request}
+use Rattle.agent_core.specs.Places.{Place, link, begins, used, base, outbox, total, is_sent, sends, is_application_request, is_base_request, is_first_request}
+use Rattle.agent_events.specs.Kinds.{is_drain}
 use Rattle.agent_core.specs.History.{still, peer}
 use Rattle.agent_core.specs.Machine.{Next, says, drained}
 use Rattle.agent_core.specs.Standing.{StandsAt}

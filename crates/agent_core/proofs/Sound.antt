@@ -4,8 +4,8 @@ use Rattle.std.specs.List.{AllByRecursion}
 use Rattle.std.proofs.lemmas.Bool.{ne_eqb}
 use Rattle.std.proofs.lemmas.List.{length-append}
 use Rattle.std.proofs.lemmas.List.Elements.{filter-append}
-use Rattle.agent_config.specs.declared.config.Config.{Config}
-use Rattle.agent_core.specs.declared.events.Input.{Input}
+use Rattle.agent_settings.specs.declared.config.Config.{Config}
+use Rattle.agent_events.specs.declared.events.Input.{Input}
 use Rattle.agent_core.specs.Places.{Place, Taking, now, takings, with_taking, match_of, is_at, serial}
 use Rattle.agent_core.specs.History.{taking_place}
 use Rattle.agent_core.proofs.Orders.{Ascending}

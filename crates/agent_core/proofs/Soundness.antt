@@ -4,7 +4,7 @@ use Rattle.std.specs.Prelude.{slice_get, ◌==◌}
 use Rattle.std.specs.Option.{option_or, option_map_or}
 use Rattle.std.proofs.lemmas.Bool.{ne_eqb, eq-eqb}
 use Rattle.diameter_message.specs.Message.{IsHeader}
-use Rattle.agent_config.specs.declared.config.Config.{Config}
+use Rattle.agent_settings.specs.declared.config.Config.{Config}
 use Rattle.agent_core.specs.Places.{Place, Taking, now, link, begins, is_at, hop_at, rank, number, sends, used, is_application_request, header_of}
 use Rattle.peer_machine.specs.Reading.{is_application_command}
 use Rattle.agent_core.specs.Standing.{last_sent}

@@ -2,7 +2,7 @@
 use Rattle.std.proofs.Common.{◌≡◌, ℕ, ◌+◌, ◌<◌, ◌≤◌, inl, inr, Bool, true, false, cond, List, [], ◌∷◌, Option, refl, sym, ◌∙◌, ap, arith}
 use Rattle.std.specs.List.{AllByRecursion}
 use Rattle.diameter_message.specs.Message.{MessageParts}
-use Rattle.agent_config.specs.declared.config.Config.{Config}
+use Rattle.agent_settings.specs.declared.config.Config.{Config}
 use Rattle.peer_machine.specs.declared.words.LinkState.{LinkState}
 use Rattle.peer_machine.specs.declared.words.BaseRequest.TheVariants.{CapabilitiesExchange, DeviceWatchdog, DisconnectPeer}
 use Rattle.peer_machine.specs.declared.words.Event.{Event as LinkEvent}
@@ -10,10 +10,11 @@ use Rattle.peer_machine.specs.declared.words.Act.{Act}
 use Rattle.peer_machine.specs.declared.words.Act.TheVariants.{Nothing, Serve, Discard, Pass, Close, Request, Answer, AnswerAndClose}
 use Rattle.peer_machine.specs.Rules.{after}
 use Rattle.peer_machine.specs.Step.{PeerParts, link_at}
-use Rattle.agent_core.specs.declared.events.Input.{Input}
-use Rattle.agent_core.specs.declared.events.Output.{Output}
+use Rattle.agent_events.specs.declared.events.Input.{Input}
+use Rattle.agent_events.specs.declared.events.Output.{Output}
 use Rattle.agent_core.specs.declared.ledger.Ledger.{Ledger}
-use Rattle.agent_core.specs.Places.{Place, Taking, now, link, begins, opens, takings, live, waiting, is_drain}
+use Rattle.agent_core.specs.Places.{Place, Taking, now, link, begins, opens, takings, live, waiting}
+use Rattle.agent_events.specs.Kinds.{is_drain}
 use Rattle.agent_core.specs.History.{still, linked, link_act, link_after, peer, next_numbers}
 use Rattle.agent_core.specs.Machine.{Next, says, drained, on_link, begins_by, opens_then}
 use Rattle.agent_core.specs.Standing.{StandsAt, IsRoomy}

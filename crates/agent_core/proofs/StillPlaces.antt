@@ -5,9 +5,9 @@ use Rattle.radius_packet.specs.declared.reasons.Reason.{Reason}
 use Rattle.pending_table.specs.declared.key.Key.{Key}
 use Rattle.pending_table.specs.Table as table
 use Rattle.pending_table.specs.Table.{Row, same_key}
-use Rattle.agent_core.specs.declared.events.Input.{Input}
-use Rattle.agent_core.specs.declared.events.Output.{Output}
-use Rattle.agent_core.specs.declared.events.Output.TheVariants.{Send, Dropped}
+use Rattle.agent_events.specs.declared.events.Input.{Input}
+use Rattle.agent_events.specs.declared.events.Output.{Output}
+use Rattle.agent_events.specs.declared.events.Output.TheVariants.{Send, Dropped}
 use Rattle.agent_core.specs.declared.ledger.Ledger.{Ledger}
 use Rattle.agent_core.specs.Verdict.{Request}
 use Rattle.agent_core.specs.Places.{Place, Taking, match_of, answer_to, reply_in, live}

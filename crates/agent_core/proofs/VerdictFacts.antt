@@ -7,9 +7,9 @@ use Rattle.radius_packet.specs.declared.reasons.Reason.TheVariants as reasons
 use Rattle.radius_packet.specs.declared.fault.PacketFault.{PacketFault}
 use Rattle.radius_packet.specs.Packet.{PacketParts, read_packet}
 use Rattle.session_carrier.specs.declared.kept.Kind2.{Kind2}
-use Rattle.agent_config.specs.declared.config.Config.{Config}
-use Rattle.agent_config.specs.declared.client.Client.{Client}
-use Rattle.agent_config.specs.Config.{find_address, FoundStandsAtPlace}
+use Rattle.agent_settings.specs.declared.config.Config.{Config}
+use Rattle.agent_settings.specs.declared.client.Client.{Client}
+use Rattle.agent_settings.specs.Config.{find_address, FoundStandsAtPlace}
 use Rattle.pending_table.specs.declared.key.Key.{Key}
 use Rattle.agent_core.specs.Verdict.{Request, judged, packet_verdict, client_verdict, verdict, kind_at, code_at, key_of}
 

@@ -4,7 +4,7 @@ use Rattle.radius_packet.specs.declared.reasons.Reason.{Reason}
 use Rattle.pending_table.specs.declared.key.Key.{Key}
 use Rattle.session_carrier.specs.declared.kept.Kept.{Kept}
 use Rattle.pending_table.specs.Table as table
-use Rattle.agent_core.specs.declared.events.Output.{Output}
+use Rattle.agent_events.specs.declared.events.Output.{Output}
 use Rattle.agent_core.specs.declared.ledger.Ledger.{Ledger}
 use Rattle.agent_core.specs.declared.datagrams.Considered.{Considered}
 use Rattle.agent_core.specs.declared.datagrams.Considered.TheVariants.{Says, TakesUp}

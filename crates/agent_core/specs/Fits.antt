@@ -7,7 +7,7 @@ use Rattle.session_carrier.specs.declared.kept.Kind2.{Kind2}
 use Rattle.session_carrier.specs.declared.kept.Kind2.TheVariants.{Access, Eap, Start, Interim, Stop}
 use Rattle.session_carrier.specs.declared.kept.Kept.{Kept}
 use Rattle.session_carrier.specs.declared.kept.Numbers.{Numbers}
-use Rattle.agent_config.specs.declared.config.Config.{Config}
+use Rattle.agent_settings.specs.declared.config.Config.{Config}
 use Rattle.access_map.specs.Requests as access
 use Rattle.eap_map.specs.Requests as eap
 use Rattle.accounting_map.specs.Requests as accounting

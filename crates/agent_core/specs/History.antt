@@ -12,8 +12,8 @@ use Rattle.session_carrier.specs.declared.kept.Kind2.TheVariants.{Access, Eap, S
 use Rattle.session_carrier.specs.declared.kept.Kept.{Kept}
 use Rattle.session_carrier.specs.declared.kept.Numbers.{Numbers}
 use Rattle.session_carrier.specs.declared.kept.Outcome.{Outcome}
-use Rattle.agent_config.specs.declared.config.Config.{Config}
-use Rattle.agent_config.specs.declared.client.Client.{Client}
+use Rattle.agent_settings.specs.declared.config.Config.{Config}
+use Rattle.agent_settings.specs.declared.client.Client.{Client}
 use Rattle.translation.specs.Answers as access
 use Rattle.translation.specs.declared.service.Service.TheVariants as services
 use Rattle.accounting_map.specs.Answers as accounting
@@ -26,10 +26,10 @@ use Rattle.peer_machine.specs.declared.words.Event.TheVariants.{Opens, Serves, S
 use Rattle.peer_machine.specs.declared.words.Event.{Event as LinkEvent}
 use Rattle.peer_machine.specs.declared.words.Act.{Act}
 use Rattle.peer_machine.specs.declared.peer.PeerOutput.{PeerOutput}
-use Rattle.agent_core.specs.declared.events.Input.{Input}
-use Rattle.agent_core.specs.declared.events.Input.TheVariants.{Datagram, Up, Ready, Message, Broken, Down, Tick, Drain, Leave}
-use Rattle.agent_core.specs.declared.events.Output.{Output}
-use Rattle.agent_core.specs.declared.events.Output.TheVariants.{Reply, Send, Dropped, Closed}
+use Rattle.agent_events.specs.declared.events.Input.{Input}
+use Rattle.agent_events.specs.declared.events.Input.TheVariants.{Datagram, Up, Ready, Message, Broken, Down, Tick, Drain, Leave}
+use Rattle.agent_events.specs.declared.events.Output.{Output}
+use Rattle.agent_events.specs.declared.events.Output.TheVariants.{Reply, Send, Dropped, Closed}
 use Rattle.agent_core.specs.Settings.{names, numbers_of, end_number}
 use Rattle.agent_core.specs.Links.{LinkAt, with_requests, without_requests}
 use Rattle.agent_core.specs.Verdict.{Request, verdict}

@@ -1,6 +1,6 @@
 -- Laws of the rule, for every history.
 use Rattle.std.specs.Prelude.{◌≡◌, List, [], ◌∷◌, ◌++◌}
-use Rattle.agent_config.specs.declared.config.Config.{Config}
+use Rattle.agent_settings.specs.declared.config.Config.{Config}
 use Rattle.agent_core.specs.Places.{Event}
 use Rattle.agent_core.specs.History.{place, past}
 

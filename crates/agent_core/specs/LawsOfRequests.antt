@@ -8,17 +8,17 @@ use Rattle.diameter_message.specs.Message.{MessageParts, read_message}
 use Rattle.diameter_message.specs.Results.{is_success, result_code}
 use Rattle.translation.specs.Reading.{has_own_session}
 use Rattle.session_carrier.specs.declared.kept.Outcome.{Outcome}
-use Rattle.agent_config.specs.declared.config.Config.{Config}
-use Rattle.agent_config.specs.Config.{InLimits, find_address}
+use Rattle.agent_settings.specs.declared.config.Config.{Config}
+use Rattle.agent_settings.specs.Config.{InLimits, find_address}
 use Rattle.radius_packet.specs.declared.reasons.Reason.{Reason}
 use Rattle.peer_machine.specs.declared.Phase.{Phase}
 use Rattle.peer_machine.specs.declared.Phase.TheVariants.{Closed, Greeting, Serving, Closing}
 use Rattle.pending_table.specs.declared.key.Key.{Key}
 use Rattle.pending_table.specs.Table.{same_key, same_via}
-use Rattle.agent_core.specs.declared.events.Input.{Input}
-use Rattle.agent_core.specs.declared.events.Input.TheVariants.{Datagram, Message}
-use Rattle.agent_core.specs.declared.events.Output.{Output}
-use Rattle.agent_core.specs.declared.events.Output.TheVariants.{Reply, Send}
+use Rattle.agent_events.specs.declared.events.Input.{Input}
+use Rattle.agent_events.specs.declared.events.Input.TheVariants.{Datagram, Message}
+use Rattle.agent_events.specs.declared.events.Output.{Output}
+use Rattle.agent_events.specs.declared.events.Output.TheVariants.{Reply, Send}
 use Rattle.agent_core.specs.Verdict.{Request, verdict}
 use Rattle.agent_core.specs.Places.{Event, Place, Taking, link, takings, is_at, ends, live, waiting, answer_to, is_request}
 use Rattle.agent_core.specs.History.{place, past, matches, outcome, next_numbers}

@@ -3,7 +3,7 @@ use Rattle.std.specs.Prelude.{◌≡◌, ℕ, Bool, List, Option, IsSome, slice_
 use Rattle.diameter_message.specs.Message.{MessageParts}
 use Rattle.pending_table.specs.declared.entry.Entry.{Entry}
 use Rattle.pending_table.specs.Table as table
-use Rattle.agent_core.specs.declared.events.Output.{Output}
+use Rattle.agent_events.specs.declared.events.Output.{Output}
 use Rattle.agent_core.specs.declared.ledger.Ledger.{Ledger}
 use Rattle.agent_core.specs.declared.messages.Heard.{Heard}
 use Rattle.agent_core.specs.declared.messages.Heard.TheVariants.{Says, Settles}

@@ -5,16 +5,17 @@ use Rattle.std.specs.Option.{option_or}
 use Rattle.diameter_message.specs.declared.header.Header.{Header}
 use Rattle.diameter_message.specs.Message.{parts_of}
 use Rattle.session_carrier.specs.declared.kept.Kept.{Kept}
-use Rattle.agent_config.specs.declared.config.Config.{Config}
-use Rattle.agent_config.specs.declared.client.Client.{Client}
+use Rattle.agent_settings.specs.declared.config.Config.{Config}
+use Rattle.agent_settings.specs.declared.client.Client.{Client}
 use Rattle.pending_table.specs.declared.key.Key.{Key}
 use Rattle.peer_machine.specs.declared.Phase.{Phase}
 use Rattle.peer_machine.specs.declared.Phase.TheVariants.{Closed, Greeting, Serving, Closing}
 use Rattle.peer_machine.specs.Rules.{may_begin}
-use Rattle.agent_core.specs.declared.events.Input.{Input}
-use Rattle.agent_core.specs.declared.events.Input.TheVariants.{Up, Ready, Drain}
-use Rattle.agent_core.specs.declared.events.Output.{Output}
-use Rattle.agent_core.specs.declared.events.Output.TheVariants.{Reply, Send}
+use Rattle.agent_events.specs.declared.events.Input.{Input}
+use Rattle.agent_events.specs.declared.events.Input.TheVariants.{Up, Ready}
+use Rattle.agent_events.specs.declared.events.Output.{Output}
+use Rattle.agent_events.specs.declared.events.Output.TheVariants.{Reply, Send}
+use Rattle.agent_events.specs.Kinds.{is_drain}
 use Rattle.agent_core.specs.Links.{LinkAt, no_link}
 
 -- an input and the moment that came with it
@@ -178,10 +179,6 @@ used ps = sent_on_link is_application_request ps
 
 abbrev pub base : List Place → ℕ
 base ps = sent_on_link is_base_request ps
-
-abbrev pub is_drain : Input → Bool
-is_drain Drain = true
-is_drain input = false
 
 -- what was sent since the last Drain, or since the present link began
 abbrev pub outbox : List Place → ℕ

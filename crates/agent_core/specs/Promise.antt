@@ -1,9 +1,9 @@
 -- Internal: when a core may be: its settings are in limits, and it stands for some history of octets.
 use Rattle.std.specs.Prelude.{ℕ, ◌<◌, ◌^◌, List, IfSome, slice_index}
 use Rattle.std.specs.List.{AllByRecursion}
-use Rattle.agent_config.specs.Config.{InLimits}
-use Rattle.agent_core.specs.declared.events.Input.{Input}
-use Rattle.agent_core.specs.declared.events.Input.TheVariants.{Datagram, Up, Ready, Message, Broken, Down, Tick, Drain, Leave}
+use Rattle.agent_settings.specs.Config.{InLimits}
+use Rattle.agent_events.specs.declared.events.Input.{Input}
+use Rattle.agent_events.specs.declared.events.Input.TheVariants.{Datagram, Up, Ready, Message, Broken, Down, Tick, Drain, Leave}
 use Rattle.agent_core.specs.declared.ledger.Ledger.{Ledger}
 use Rattle.agent_core.specs.Places.{Event}
 use Rattle.agent_core.specs.Standing.{StandsFor, IsRoomy}

@@ -9,8 +9,8 @@ use Rattle.session_carrier.specs.declared.kept.Numbers.{Numbers}
 use Rattle.session_carrier.specs.Carriers.{CarriedParts}
 use Rattle.session_carrier.specs.Route.{RouteParts}
 use Rattle.session_carrier.specs.Session.{fresh_session, accounting_text}
-use Rattle.agent_config.specs.declared.config.Config.{Config}
-use Rattle.agent_config.specs.declared.client.Client.{Client}
+use Rattle.agent_settings.specs.declared.config.Config.{Config}
+use Rattle.agent_settings.specs.declared.client.Client.{Client}
 use Rattle.translation.specs.Judging.{proxy_states}
 use Rattle.translation.specs.Routes.{carried_state, carried_class, name_realm}
 use Rattle.access_map.specs.Requests.{access_image}

@@ -2,9 +2,9 @@
 use Rattle.std.specs.Prelude.{ℕ, ◌+◌, Bool, nat_lt, ◌==◌, ◌||◌, max, not, List, length, Option, Some, None, if◌then◌else◌}
 use Rattle.radius_packet.specs.declared.reasons.Reason.{Reason}
 use Rattle.radius_packet.specs.declared.reasons.Reason.TheVariants.{LinkDown, Spent, Full, Backlog}
-use Rattle.agent_config.specs.declared.config.Config.{Config}
+use Rattle.agent_settings.specs.declared.config.Config.{Config}
 use Rattle.peer_machine.specs.declared.Phase.{Phase}
-use Rattle.agent_core.specs.declared.events.Input.{Input}
+use Rattle.agent_events.specs.declared.events.Input.{Input}
 use Rattle.agent_core.specs.Places.{Place, link, begins, is_serving, live, waiting, used, outbox, serial}
 
 pub record Rooms : Type 0 where

@@ -8,9 +8,9 @@ use Rattle.radius_packet.specs.declared.reasons.Reason.TheVariants as reasons
 use Rattle.radius_packet.specs.declared.fault.PacketFault.{PacketFault}
 use Rattle.radius_packet.specs.declared.fault.PacketFault.TheVariants as faults
 use Rattle.session_carrier.specs.declared.kept.Kind2.{Kind2}
-use Rattle.agent_config.specs.declared.config.Config.{Config}
-use Rattle.agent_config.specs.declared.client.Client.{Client}
-use Rattle.agent_config.specs.Config.{find_address}
+use Rattle.agent_settings.specs.declared.config.Config.{Config}
+use Rattle.agent_settings.specs.declared.client.Client.{Client}
+use Rattle.agent_settings.specs.Config.{find_address}
 use Rattle.access_map.specs.Verdict as access
 use Rattle.accounting_map.specs.Verdict as accounting
 use Rattle.pending_table.specs.declared.key.Key.{Key}

@@ -7,9 +7,9 @@ use Rattle.radius_packet.specs.declared.reasons.Via.TheVariants.{Auth, Acct}
 use Rattle.radius_packet.specs.declared.reasons.Reason.{Reason}
 use Rattle.session_carrier.specs.declared.kept.Kind2.{Kind2}
 use Rattle.session_carrier.specs.declared.kept.Kind2.TheVariants.{Access, Eap, Start, Interim, Stop}
-use Rattle.agent_config.specs.Config.{ClientInLimits}
-use Rattle.agent_config.specs.declared.client.Client.{Client}
-use Rattle.agent_config.specs.declared.config.Config.{Config}
+use Rattle.agent_settings.specs.Config.{ClientInLimits}
+use Rattle.agent_settings.specs.declared.client.Client.{Client}
+use Rattle.agent_settings.specs.declared.config.Config.{Config}
 use Rattle.access_map.specs.Verdict as access
 use Rattle.accounting_map.specs.Verdict as accounting
 use Rattle.pending_table.specs.declared.key.Key.{Key}

@@ -1,7 +1,7 @@
 //! The core: one step of the agent.
 
 ghost use Rattle.std.specs.Prelude.{◌≡◌, ◌≤◌, ◌++◌, [], ◌∷◌, List, IfOk, OnOk, OnErr, length, max};
-ghost use Rattle.agent_config.specs.Config.{InLimits};
+ghost use Rattle.agent_settings.specs.Config.{InLimits};
 ghost use Rattle.pending_table.specs.Table as table;
 ghost use Rattle.agent_core.specs.Places.{Event};
 ghost use Rattle.agent_core.specs.Places as places;
@@ -10,9 +10,9 @@ ghost use Rattle.agent_core.specs.Machine as machine;
 ghost use Rattle.agent_core.specs.Standing.{StandsFor};
 ghost use Rattle.agent_core.specs.Promise.{AreBytes, IsReal};
 
-use crate::events::{Input, Outputs};
 use crate::ledger::Ledger;
-use agent_config::Config;
+use agent_events::{Input, Outputs};
+use agent_settings::Config;
 use peer_machine::Phase;
 use std::alloc::Global;
 use std::hash::RandomState;
@@ -20,7 +20,7 @@ use std::marker::Model;
 use wire_core::NoMemory;
 
 /// The agent's state. Contracts see what it keeps, and say for which history it stands.
-#[derive(Debug, Drop)]
+#[derive(Drop)]
 pub struct Core {
     /// On the heap, so that a core that is handed on isn't copied.
     ledger: Box<Ledger, Global>,
@@ -81,8 +81,8 @@ impl Core {
         ensures config { self.new.config ≡ self.old.config }
         ensures err { OnErr result (self.new ≡ self.old) }
     {
-        agent_config::found_stands_at_place();
-        agent_config::clients_are_in_limits();
+        agent_settings::found_stands_at_place();
+        agent_settings::clients_are_in_limits();
         session_carrier::fresh_sessions_are_short();
         has_octets(input);
         self.ledger.step(alloc, moment, input)

@@ -9,10 +9,10 @@ ghost use Rattle.agent_core.specs.Machine as machine;
 ghost use Rattle.agent_core.specs.Standing.{IsSteady};
 ghost use Rattle.agent_core.specs.Considering.{Considers};
 
-use crate::events::{Output, Outputs};
 use crate::ledger::{Ledger, dropped};
 use crate::requests::{Prepared, prepare};
 use crate::verdict::{Request, verdict};
+use agent_events::{Output, Outputs};
 use pending_table::{Found, Key};
 use radius_packet::{Reason, Via};
 use session_carrier::Kept;

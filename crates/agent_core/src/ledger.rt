@@ -1,14 +1,14 @@
 //! What the core keeps of the history: the settings, the link, a few counts and the live entries.
 
 ghost use Rattle.std.specs.Prelude.{◌≡◌, ◌<◌, [], ◌∷◌, IfOk, None, OnOk, OnErr, length};
-ghost use Rattle.agent_config.specs.Config.{InLimits};
+ghost use Rattle.agent_settings.specs.Config.{InLimits};
 ghost use Rattle.pending_table.specs.Table as table;
 ghost use Rattle.agent_core.specs.Machine as machine;
 ghost use Rattle.agent_core.specs.Rooms as rooms;
 ghost use Rattle.agent_core.specs.Standing.{IsSteady, start};
 
-use crate::events::{Input, Output, Outputs};
-use agent_config::Config;
+use agent_events::{Input, Output, Outputs};
+use agent_settings::Config;
 use peer_machine::{Peer, PeerInput, Phase};
 use pending_table::Table;
 use radius_packet::Reason;
@@ -18,7 +18,7 @@ use std::hash::RandomState;
 use wire_core::NoMemory;
 
 /// What is kept of the inputs so far.
-#[derive(Debug, Drop)]
+#[derive(Drop)]
 pub struct Ledger {
     pub config: Config,
     /// the greatest moment so far

@@ -4,7 +4,6 @@
 mod answers;
 mod core_step;
 mod datagrams;
-mod events;
 mod laws;
 mod ledger;
 mod links;
@@ -12,8 +11,8 @@ mod messages;
 mod requests;
 mod verdict;
 
+pub use agent_events::{Input, Output, Outputs};
 pub use core_step::Core;
-pub use events::{Input, Output, Outputs};
 pub use laws::{
     acceptances_are_guarded, answers_settle, drops_are_quiet, fresh_sessions_differ,
     outputs_are_few, past_goes_on, replies_are_the_same, replies_go_to_clients,

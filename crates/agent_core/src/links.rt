@@ -9,8 +9,8 @@ ghost use Rattle.agent_core.specs.Places as places;
 ghost use Rattle.agent_core.specs.Machine as machine;
 ghost use Rattle.agent_core.specs.Standing.{IsSteady};
 
-use crate::events::{Output, Outputs};
 use crate::ledger::Ledger;
+use agent_events::{Output, Outputs};
 use peer_machine::{PeerInput, PeerOutput, Phase};
 use std::alloc::Global;
 use wire_core::NoMemory;

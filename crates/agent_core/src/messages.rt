@@ -3,7 +3,7 @@
 ghost use Rattle.std.specs.Prelude.{◌≡◌, ◌<◌, ◌+◌, ◌≤◌, ◌^◌, ◌&&◌, nat_lt, All, IfOk, IsSome, OnOk, OnErr, true};
 ghost use Rattle.diameter_message.specs.Message.{read_message};
 ghost use Rattle.diameter_message.specs.View.{message_view};
-ghost use Rattle.agent_config.specs.Config.{InLimits};
+ghost use Rattle.agent_settings.specs.Config.{InLimits};
 ghost use Rattle.pending_table.specs.Table as table;
 ghost use Rattle.peer_machine.specs.Reading.{is_application_command};
 ghost use Rattle.agent_core.specs.History as history;
@@ -13,8 +13,8 @@ ghost use Rattle.agent_core.specs.Standing.{IsSteady};
 ghost use Rattle.agent_core.specs.Matching.{Answers, Matches};
 
 use crate::answers::outcome;
-use crate::events::{Output, Outputs};
 use crate::ledger::{Ledger, dropped};
+use agent_events::{Output, Outputs};
 use diameter_message::command_codes::{AA, ACCOUNTING, DIAMETER_EAP, SESSION_TERMINATION};
 use diameter_message::command_flags::REQUEST;
 use diameter_message::{Header, Message};
@@ -125,7 +125,7 @@ impl Ledger {
         requires kept { KeptFits self.now.config entry.now.kept }
         ensures { IfOk result (λ h. Answers self.now entry.now (message_view message.now) h) }
     {
-        agent_config::clients_are_in_limits();
+        agent_settings::clients_are_in_limits();
         let client = self.config.clients.at(entry.kept.client as usize);
         let outcome = outcome(alloc, client, &entry.kept, message, self.numbers())?;
         let follows = outcome.follow.is_some();

@@ -4,7 +4,7 @@ ghost use Rattle.std.specs.Prelude.{◌≡◌, ℕ, List, false, IfOk, not, is_s
 ghost use Rattle.std.specs.List.{AllByRecursion};
 ghost use Rattle.diameter_message.specs.Message.{IsMessage};
 ghost use Rattle.session_carrier.specs.Route.{route_view};
-ghost use Rattle.agent_config.specs.Config.{InLimits, ClientInLimits};
+ghost use Rattle.agent_settings.specs.Config.{InLimits, ClientInLimits};
 ghost use Rattle.translation.specs.Routes.{carried_state};
 ghost use Rattle.pending_table.specs.declared.key.Key.{Key};
 ghost use Rattle.agent_core.specs.Requests as specs;
@@ -13,7 +13,7 @@ ghost use Rattle.agent_core.specs.Fits.{header_by, longest_session, KeptFits, Ro
 ghost use Rattle.agent_core.specs.Routing.{own_route_view};
 
 use crate::verdict::Request;
-use agent_config::{Client, Config};
+use agent_settings::{Client, Config};
 use radius_packet::Packet;
 use session_carrier::{Kept, Kind2, Numbers, Route};
 use std::alloc::Global;

@@ -3,11 +3,11 @@
 ghost use Rattle.std.specs.Prelude.{◌≡◌, ℕ, IfOk, Ok};
 ghost use Rattle.std.specs.List.{AllByRecursion};
 ghost use Rattle.radius_packet.specs.Packet.{read_packet};
-ghost use Rattle.agent_config.specs.Config.{InLimits};
+ghost use Rattle.agent_settings.specs.Config.{InLimits};
 ghost use Rattle.agent_core.specs.Verdict as specs;
 ghost use Rattle.agent_core.specs.Verdicts.{request_view, via_of, IsRequest, IsShort};
 
-use agent_config::{Client, Config};
+use agent_settings::{Client, Config};
 use radius_packet::{Packet, PacketFault, Reason, Via};
 use session_carrier::Kind2;
 
@@ -110,8 +110,8 @@ pub(crate) fn verdict<'a>(
     ensures request { IfOk result (IsRequest config.now) }
     ensures port { IfOk result (λ r. via ≡ via_of r.kind) }
 {
-    agent_config::found_stands_at_place();
-    agent_config::clients_are_in_limits();
+    agent_settings::found_stands_at_place();
+    agent_settings::clients_are_in_limits();
     match config.clients.by_address(address) {
         None => Err(Reason::UnknownClient),
         Some((client, settings)) => packet_verdict(via, client, settings, address, octets),

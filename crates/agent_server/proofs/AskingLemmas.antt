@@ -5,20 +5,20 @@ use Rattle.std.proofs.lemmas.Bool.{true≢false}
 use Rattle.std.proofs.lemmas.List.Elements.{All-cons, All-head, All-nil, All-tail}
 use Rattle.radius_packet.specs.declared.reasons.Via.{Via}
 use Rattle.radius_packet.specs.declared.reasons.Via.TheVariants.{Auth, Acct}
-use Rattle.agent_core.specs.declared.events.Input.{Input}
-use Rattle.agent_core.specs.declared.events.Input.TheVariants.{Broken, Datagram, Down, Drain, Leave, Message, Ready, Tick, Up}
-use Rattle.agent_core.specs.Places.{is_drain}
+use Rattle.agent_events.specs.declared.events.Input.{Input}
+use Rattle.agent_events.specs.declared.events.Input.TheVariants.{Broken, Datagram, Down, Drain, Leave, Message, Ready, Tick, Up}
+use Rattle.agent_events.specs.Kinds.{is_drain}
 use Rattle.turnstile.specs.Turns.{Numbered, of, plain}
-use Rattle.agent_server.specs.declared.heard.Heard.{Heard}
-use Rattle.agent_server.specs.Entries.{EachEntry, RunTurn}
-use Rattle.agent_server.specs.LinkReading.{LinkMayAsk, LinkMayTake}
-use Rattle.agent_server.specs.Running.{NoLeave}
-use Rattle.agent_server.specs.Runs.{is_leave}
+use Rattle.server_workers.specs.declared.heard.Heard.{Heard}
+use Rattle.server_workers.specs.Entries.{EachEntry, RunTurn}
+use Rattle.server_workers.specs.LinkReading.{LinkMayAsk, LinkMayTake}
+use Rattle.server_workers.specs.Running.{NoLeave}
+use Rattle.agent_events.specs.Kinds.{is_leave}
 use Rattle.agent_server.specs.Server.{MayTurn, MayWriteTurn}
-use Rattle.agent_server.specs.Serving.{IsTick, IsUp, MayWrite}
-use Rattle.agent_server.specs.SocketReading.{SocketMayAsk, SocketMayTake}
-use Rattle.agent_server.specs.Spans.{IsWithin, ServerTurn, is_beginning}
-use Rattle.agent_server.proofs.TurnLemmas.{of-append, plain-there}
+use Rattle.server_workers.specs.Serving.{IsTick, IsUp, MayWrite}
+use Rattle.server_workers.specs.SocketReading.{SocketMayAsk, SocketMayTake}
+use Rattle.server_workers.specs.Segments.{IsWithin, ServerTurn, is_beginning}
+use Rattle.server_workers.proofs.TurnLemmas.{of-append, plain-there}
 
 -- ---- lists
 

@@ -11,37 +11,37 @@ use Rattle.wire_devices.specs.Dialling.{Dials}
 use Rattle.wire_devices.specs.Links.{Inlet, Outlet}
 use Rattle.wire_devices.specs.Sockets.{Socket}
 use Rattle.wire_devices.specs.Telling.{Adds, TellsOnly}
-use Rattle.agent_core.specs.declared.events.Input.{Input}
-use Rattle.agent_core.specs.declared.events.Input.TheVariants as inputs
+use Rattle.agent_events.specs.declared.events.Input.{Input}
+use Rattle.agent_events.specs.declared.events.Input.TheVariants as inputs
 use Rattle.turnstile.specs.declared.view.Known.{Known}
 use Rattle.turnstile.specs.Knowing.{Carries, Joined}
 use Rattle.turnstile.specs.Passes.{known}
 use Rattle.turnstile.specs.Turns.{In, Numbered, StartsWith, least, of, plain}
 use Rattle.agent_server.specs.declared.desk.AgentDesk.{AgentDesk}
 use Rattle.agent_server.specs.declared.desk.DeskEnd.{DeskEnd}
-use Rattle.agent_server.specs.declared.desk.RunBase.{RunBase}
-use Rattle.agent_server.specs.declared.heard.Heard.{Heard}
-use Rattle.agent_server.specs.declared.running.Past.{Past}
-use Rattle.agent_server.specs.declared.running.RunEnd.{RunEnd}
-use Rattle.agent_server.specs.declared.running.Twins.{Twins}
+use Rattle.server_workers.specs.declared.base.RunBase.{RunBase}
+use Rattle.server_workers.specs.declared.heard.Heard.{Heard}
+use Rattle.server_workers.specs.declared.running.Past.{Past}
+use Rattle.server_workers.specs.declared.running.RunEnd.{RunEnd}
+use Rattle.server_workers.specs.declared.running.Twins.{Twins}
 use Rattle.agent_server.specs.declared.server.SocketBack.{SocketBack}
-use Rattle.agent_server.specs.declared.trail.Pair.{Pair}
+use Rattle.server_workers.specs.declared.links.Pair.{Pair}
 use Rattle.agent_server.specs.declared.trail.Trail.{Trail}
-use Rattle.agent_server.specs.declared.workers.Worker.{Worker}
-use Rattle.agent_server.specs.declared.workers.Worker.TheVariants as worker
+use Rattle.server_workers.specs.declared.workers.Worker.{Worker}
+use Rattle.server_workers.specs.declared.workers.Worker.TheVariants as worker
 use Rattle.agent_server.specs.Desks.{HasRead, StandsBy}
-use Rattle.agent_server.specs.Entries.{RunTurn, is_entry_of, is_tick, replies, replies_by, ticks}
-use Rattle.agent_server.specs.LinkReading.{LinkMayTake}
-use Rattle.agent_server.specs.Running.{Ends, LateDrainsAreEmpty, RoseBy, RunOver}
+use Rattle.server_workers.specs.Entries.{RunTurn, is_entry_of, is_tick, replies, replies_by, ticks}
+use Rattle.server_workers.specs.LinkReading.{LinkMayTake}
+use Rattle.server_workers.specs.Running.{Ends, LateDrainsAreEmpty, RoseBy, RunOver}
 use Rattle.agent_server.specs.Server.{Served, status_given}
-use Rattle.agent_server.specs.SocketReading.{AddsAtLeast, ReadsSocket, ServedSocket, SocketMayTake}
-use Rattle.agent_server.specs.Spans.{ServerTurn, is_beginning}
+use Rattle.server_workers.specs.SocketReading.{AddsAtLeast, ReadsSocket, ServedSocket, SocketMayTake}
+use Rattle.server_workers.specs.Segments.{ServerTurn, is_beginning}
 use Rattle.agent_server.specs.Starting.{Alike, AllDone, IsSocketBack, SocketDone, StartsFor}
 use Rattle.agent_server.proofs.AskingLemmas.{All-right}
-use Rattle.agent_server.proofs.DialLemmas.{rose-on}
+use Rattle.server_workers.proofs.DialLemmas.{rose-on}
 use Rattle.agent_server.proofs.FinalLemmas.{final, over-wider}
 use Rattle.agent_server.proofs.LateDrains.{late-empty}
-use Rattle.agent_server.proofs.TurnLemmas.{of-append}
+use Rattle.server_workers.proofs.TurnLemmas.{of-append}
 
 -- ---- who asks what
 
@@ -255,7 +255,7 @@ module _ {C D I O : Type 0} (readings : C → Option (List ℕ)) (told : D → S
 -- ---- how all workers came to be done
 
 module _ {C D : Type 0} (told : D → Socket) where
-  socket-done : {I : Type 0} (via : Via) (n : ℕ) (k : Known (AgentDesk C) Input Heard) (before : Socket) (reader : Worker C D I) (back : SocketBack C D)
+  socket-done : {I : Type 0} (via : Via) (n : ℕ) (k : Known (AgentDesk C) Input Heard) (before : Socket) (reader : Worker (AgentDesk C) D I) (back : SocketBack C D)
       → StartsFor told via n k before reader → IsSocketBack told (Ok reader) back → SocketDone told via n k before back
   socket-done via n k before (worker.Reader alloc shared pass port socket) back (same, begun) (table, reads) = record {
     begin = known pass;
@@ -267,7 +267,7 @@ module _ {C D : Type 0} (told : D → Socket) where
 
   pub all-done : {I O : Type 0} (readings : C → Option (List ℕ)) (hears : I → Inlet) (speaks : O → Outlet) (base : RunBase) (dials dials' dials'' : Dials)
       (starts middle starts' : ℕ) (auth acct : Socket) (k k' : Known (AgentDesk C) Input Heard) (end : RunEnd) (twins : Twins D) (past : Past I O)
-      (auth_reader acct_reader : Worker C D I) (auth_back acct_back : SocketBack C D)
+      (auth_reader acct_reader : Worker (AgentDesk C) D I) (auth_back acct_back : SocketBack C D)
       → Carries (StandsBy readings) k base → RoseBy (ticks (of 0 k.seen)) dials.faults dials'.faults → dials.faults ≤ dials'.faults
       → Ends hears speaks told end dials' dials'' (Rose starts middle) k k' twins past → starts' ≡ middle
       → StartsFor told Auth 1 k auth auth_reader → StartsFor told Acct 2 k acct acct_reader

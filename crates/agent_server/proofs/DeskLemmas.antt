@@ -3,23 +3,25 @@ use Rattle.std.proofs.Common.{◌≡◌, ℕ, ◌-◌, ◌^◌, ◌≤◌, max, 
 use Rattle.std.proofs.lemmas.List.{length-append}
 use Rattle.wire_core.specs.Counts.{one_more}
 use Rattle.wire_devices.specs.Telling.{Adds}
-use Rattle.agent_config.specs.declared.config.Config.{Config}
+use Rattle.agent_settings.specs.declared.config.Config.{Config}
 use Rattle.peer_machine.specs.declared.LinkCause.{LinkCause}
-use Rattle.agent_core.specs.declared.events.Input.{Input}
-use Rattle.agent_core.specs.declared.events.Input.TheVariants.{Datagram, Up, Ready, Message, Broken, Down, Tick, Drain, Leave}
-use Rattle.agent_core.specs.declared.events.Output.{Output}
+use Rattle.agent_events.specs.declared.events.Input.{Input}
+use Rattle.agent_events.specs.declared.events.Input.TheVariants.{Datagram, Up, Ready, Message, Broken, Down, Tick, Drain, Leave}
+use Rattle.agent_events.specs.declared.events.Output.{Output}
 use Rattle.std.specs.Result.{IsErr}
 use Rattle.turnstile.specs.Turns.{entry_of}
 use Rattle.agent_core.specs.declared.ledger.Ledger.{Ledger}
 use Rattle.agent_core.specs.Laws.{PastGoesOn}
-use Rattle.agent_core.specs.Places.{Event, Place, begins, is_drain, now}
+use Rattle.agent_core.specs.Places.{Event, Place, begins, now}
+use Rattle.agent_events.specs.Kinds.{is_drain}
 use Rattle.agent_core.specs.History.{outputs_after, past, place, places}
 use Rattle.agent_core.specs.Standing.{StandsFor}
 use Rattle.agent_server.specs.declared.desk.AgentDesk.{AgentDesk}
-use Rattle.agent_server.specs.declared.desk.RunBase.{RunBase}
-use Rattle.agent_server.specs.declared.heard.Heard.{Heard}
+use Rattle.server_workers.specs.declared.base.RunBase.{RunBase}
+use Rattle.server_workers.specs.declared.heard.Heard.{Heard}
 use Rattle.agent_server.specs.Desks.{AreRead, Enters, HasRead, IsCalm, IsSame, StandsBy}
-use Rattle.agent_server.specs.Runs.{IsRunFrom, closed, closed_with, event_of, handed_over, has_left, heard_at, history, is_leave, others_in, places_of, unsent, unsent_with}
+use Rattle.agent_server.specs.Runs.{IsRunFrom, closed, closed_with, event_of, handed_over, has_left, heard_at, history, others_in, places_of, unsent, unsent_with}
+use Rattle.agent_events.specs.Kinds.{is_leave}
 use Rattle.agent_server.proofs.PlaceLemmas.{place-at}
 
 -- ---- histories of runs

@@ -3,35 +3,36 @@ use Rattle.std.proofs.Common.{◌≡◌, ◌≢◌, ℕ, ◌+◌, ◌^◌, ◌<�
 use Rattle.std.specs.List.{All}
 use Rattle.std.proofs.lemmas.List.{append-nil, append_cancel_left}
 use Rattle.std.proofs.lemmas.List.Elements.{All-tail}
-use Rattle.agent_config.specs.declared.config.Config.{Config}
+use Rattle.agent_settings.specs.declared.config.Config.{Config}
 use Rattle.radius_packet.specs.declared.reasons.Via.TheVariants.{Auth, Acct}
 use Rattle.peer_machine.specs.declared.LinkCause.{LinkCause}
 use Rattle.agent_status.specs.declared.status.Status.{Status}
 use Rattle.agent_status.specs.declared.status.Status.TheVariants.{OutOfMemory}
 use Rattle.wire_devices.specs.Links.{Inlet, Outlet}
 use Rattle.wire_devices.specs.Sockets.{Socket}
-use Rattle.agent_core.specs.declared.events.Input.TheVariants.{Drain, Up}
+use Rattle.agent_events.specs.declared.events.Input.TheVariants.{Drain, Up}
 use Rattle.turnstile.specs.Turns.{Numbered, StartsWith, of, plain}
-use Rattle.agent_server.specs.declared.running.RunEnd.{RunEnd}
-use Rattle.agent_server.specs.declared.running.RunEnd.TheVariants as run
-use Rattle.agent_server.specs.declared.trail.Pair.{Pair}
-use Rattle.agent_server.specs.Entries.{EachEntry, EndsWith}
-use Rattle.agent_server.specs.LinkReading.{LinkMayTake}
-use Rattle.agent_server.specs.Running.{ClosedFor, EndsRun, HasSpare, LeftAtEnd, NoLeave, RunOver}
+use Rattle.server_workers.specs.declared.running.RunEnd.{RunEnd}
+use Rattle.server_workers.specs.declared.running.RunEnd.TheVariants as run
+use Rattle.server_workers.specs.declared.links.Pair.{Pair}
+use Rattle.server_workers.specs.Entries.{EachEntry, EndsWith}
+use Rattle.server_workers.specs.LinkReading.{LinkMayTake}
+use Rattle.server_workers.specs.Running.{ClosedFor, EndsRun, HasSpare, LeftAtEnd, NoLeave, RunOver}
 use Rattle.agent_server.specs.Runs.{IsRun, closed, places_of}
 use Rattle.agent_server.specs.Server.{AreWorn, Because, IsGiven, LeavesAtEnd, Linked, MayTurn, rank, status_given}
-use Rattle.agent_server.specs.Serving.{AllBut, IsTick, Span, Spanned, Spans}
-use Rattle.agent_server.specs.Serving.Spans.{no_more, one_more}
-use Rattle.agent_server.specs.SocketReading.{ServedSocket, SocketMayTake}
-use Rattle.agent_server.specs.Spans.{AreSpans, IsClosed, IsSpan, IsWithin, ServerTurn, closings, flat}
+use Rattle.server_workers.specs.Serving.{AllBut, IsTick, Span, Spanned, Spans}
+use Rattle.server_workers.specs.Serving.Spans.{no_more, one_more}
+use Rattle.server_workers.specs.SocketReading.{ServedSocket, SocketMayTake}
+use Rattle.agent_server.specs.Spans.{closings}
+use Rattle.server_workers.specs.Segments.{AreSpans, IsClosed, IsSpan, IsWithin, ServerTurn, flat}
 use Rattle.agent_server.proofs.AskingLemmas.{All-left, All-right, Asks, IsOwn, IsWritten, all-of, asks-by, own-asks, within-all, write-tick}
-use Rattle.agent_server.proofs.DialLemmas.{each-append}
-use Rattle.agent_server.proofs.GrowthLemmas.{all_but-grow, closed_for-grow, ends-grow, grow, length-grow, others-follow, spanned-grow}
-use Rattle.agent_server.proofs.LinkOverLemmas.{each-weaker}
-use Rattle.agent_server.proofs.NextLinkLemmas.{spans-length, spans-reads}
+use Rattle.server_workers.proofs.DialLemmas.{each-append}
+use Rattle.server_workers.proofs.GrowthLemmas.{all_but-grow, closed_for-grow, ends-grow, grow, length-grow, others-follow, spanned-grow}
+use Rattle.server_workers.proofs.LinkOverLemmas.{each-weaker}
+use Rattle.server_workers.proofs.NextLinkLemmas.{spans-length, spans-reads}
 use Rattle.agent_server.proofs.SpanLemmas.{closed-heard, closed-stays, closings-fit, spans-fit, within-after, within-each}
 use Rattle.agent_server.proofs.StatusLemmas.{EndsBy, Facts, HasAll, is-given, leaves-at, says}
-use Rattle.agent_server.proofs.TurnLemmas.{flat-push, of-append, plain-append}
+use Rattle.server_workers.proofs.TurnLemmas.{flat-push, of-append, plain-append}
 
 -- ---- more turns
 

@@ -5,7 +5,7 @@ use Rattle.radius_packet.specs.declared.reasons.Reason.{Reason}
 use Rattle.radius_packet.specs.declared.reasons.Reason.TheVariants as reasons
 use Rattle.diameter_message.specs.declared.fault.MessageFault.{MessageFault}
 use Rattle.diameter_message.specs.Message.{MessageParts, read_message}
-use Rattle.agent_config.specs.declared.config.Config.{Config}
+use Rattle.agent_settings.specs.declared.config.Config.{Config}
 use Rattle.pending_table.specs.declared.key.Key.{Key}
 use Rattle.pending_table.specs.Table.{same_key}
 use Rattle.peer_machine.specs.declared.Phase.{Phase}
@@ -20,24 +20,25 @@ use Rattle.peer_machine.specs.declared.words.LinkState.{LinkState}
 use Rattle.peer_machine.specs.Reading.{said_in}
 use Rattle.peer_machine.specs.Rules.{act_on}
 use Rattle.peer_machine.specs.Step.{closed_by, dropped_by, is_pass, link_at, sent}
-use Rattle.agent_core.specs.declared.events.Input.{Input}
-use Rattle.agent_core.specs.declared.events.Input.TheVariants as inputs
-use Rattle.agent_core.specs.declared.events.Output.{Output}
-use Rattle.agent_core.specs.declared.events.Output.TheVariants as outputs
+use Rattle.agent_events.specs.declared.events.Input.{Input}
+use Rattle.agent_events.specs.declared.events.Input.TheVariants as inputs
+use Rattle.agent_events.specs.declared.events.Output.{Output}
+use Rattle.agent_events.specs.declared.events.Output.TheVariants as outputs
 use Rattle.agent_core.specs.Settings.{end_number, names}
-use Rattle.agent_core.specs.Places.{Event, Place, Taking, answer_to, begins, is_drain, link, live, now, opens, total, waiting}
+use Rattle.agent_core.specs.Places.{Event, Place, Taking, answer_to, begins, link, live, now, opens, total, waiting}
+use Rattle.agent_events.specs.Kinds.{is_drain}
 use Rattle.agent_core.specs.Rooms.{Rooms, has_spare, refusal, rooms}
 use Rattle.agent_core.specs.Verdict.{Request as AccessRequest, verdict}
 use Rattle.agent_core.specs.History.{admitted, at_input, datagram, heard, link_act, linked, messaged, past, peer, place, places, repeated, requested, resends}
 use Rattle.turnstile.specs.Turns.{of, plain}
-use Rattle.agent_server.specs.declared.heard.Heard.{Heard}
-use Rattle.agent_server.specs.Entries.{EachEntry, RunTurn, octets_in}
-use Rattle.agent_server.specs.Running.{LateDrainsAreEmpty}
+use Rattle.server_workers.specs.declared.heard.Heard.{Heard}
+use Rattle.server_workers.specs.Entries.{EachEntry, RunTurn, octets_in}
+use Rattle.server_workers.specs.Running.{LateDrainsAreEmpty}
 use Rattle.agent_server.specs.Runs.{IsRun, closed, event_of, history, places_of, sends_in, unsent, unsent_with}
-use Rattle.agent_server.specs.Spans.{ServerTurn, is_beginning}
+use Rattle.server_workers.specs.Segments.{ServerTurn, is_beginning}
 use Rattle.agent_server.proofs.LinkHistory.{closed-phase, idle-act, idle-room, is_idle, makes, moves-at, place-moves, shut-more}
 use Rattle.agent_server.proofs.SpanLemmas.{begins-none, places-on, run-at}
-use Rattle.agent_server.proofs.TurnLemmas.{of-there, plain-append}
+use Rattle.server_workers.proofs.TurnLemmas.{of-there, plain-append}
 
 -- ---- a closed link sends nothing
 

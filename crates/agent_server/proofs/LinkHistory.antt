@@ -8,7 +8,7 @@ use Rattle.radius_packet.specs.declared.reasons.Reason.TheVariants as reasons
 use Rattle.diameter_message.specs.declared.fault.MessageFault.{MessageFault}
 use Rattle.diameter_message.specs.Message.{MessageParts, read_message}
 use Rattle.diameter_message.specs.Results.{is_success}
-use Rattle.agent_config.specs.declared.config.Config.{Config}
+use Rattle.agent_settings.specs.declared.config.Config.{Config}
 use Rattle.pending_table.specs.declared.key.Key.{Key}
 use Rattle.pending_table.specs.Table.{same_key}
 use Rattle.peer_machine.specs.declared.Phase.{Phase}
@@ -27,15 +27,16 @@ use Rattle.peer_machine.specs.declared.peer.PeerOutput.{PeerOutput}
 use Rattle.peer_machine.specs.Reading.{said_in}
 use Rattle.peer_machine.specs.Rules.{act_on, after, begun, heard_at, if_begun, if_past, if_room, is_past, may_begin, noted, on_begin, on_end, on_leave, on_said, on_tick, serving_tick}
 use Rattle.peer_machine.specs.Step.{closed_by, is_pass, sent}
-use Rattle.agent_core.specs.declared.events.Input.{Input}
-use Rattle.agent_core.specs.declared.events.Input.TheVariants as inputs
-use Rattle.agent_core.specs.declared.events.Output.{Output}
-use Rattle.agent_core.specs.declared.events.Output.TheVariants as outputs
+use Rattle.agent_events.specs.declared.events.Input.{Input}
+use Rattle.agent_events.specs.declared.events.Input.TheVariants as inputs
+use Rattle.agent_events.specs.declared.events.Output.{Output}
+use Rattle.agent_events.specs.declared.events.Output.TheVariants as outputs
 use Rattle.agent_core.specs.Places.{Event, Place, Taking, answer_to, begins, link, live, now, waiting}
 use Rattle.agent_core.specs.Rooms.{has_spare, refusal, rooms}
 use Rattle.agent_core.specs.Verdict.{Request as AccessRequest, verdict}
 use Rattle.agent_core.specs.History.{admitted, again, answered, at_input, datagram, heard, link_act, link_output, link_outputs, linked, matches, messaged, next_numbers, outcome, past, peer, place, places, repeated, reply_outputs, requested, resends, still, taking_of}
-use Rattle.agent_server.specs.Runs.{closed, has_left, is_leave, last_cause}
+use Rattle.agent_server.specs.Runs.{closed, has_left, last_cause}
+use Rattle.agent_events.specs.Kinds.{is_leave}
 use Rattle.agent_server.specs.Spans.{causes_in}
 use Rattle.agent_server.proofs.PlaceLemmas.{place-at}
 

@@ -1,6 +1,6 @@
 -- The moment and the input of a place are those of its event.
 use Rattle.std.proofs.Common.{◌≡◌, ℕ, Bool, true, false, max, List, find, Option, Some, None, Result, Ok, Err, refl}
-use Rattle.agent_config.specs.declared.config.Config.{Config}
+use Rattle.agent_settings.specs.declared.config.Config.{Config}
 use Rattle.radius_packet.specs.declared.reasons.Reason.{Reason}
 use Rattle.diameter_message.specs.declared.fault.MessageFault.{MessageFault}
 use Rattle.diameter_message.specs.Message.{MessageParts, read_message}
@@ -8,8 +8,8 @@ use Rattle.pending_table.specs.Table.{same_key}
 use Rattle.peer_machine.specs.Step.{is_pass}
 use Rattle.peer_machine.specs.Reading.{said_in}
 use Rattle.peer_machine.specs.declared.words.Event.TheVariants.{Says}
-use Rattle.agent_core.specs.declared.events.Input.{Input}
-use Rattle.agent_core.specs.declared.events.Input.TheVariants.{Datagram, Up, Ready, Message, Broken, Down, Tick, Drain, Leave}
+use Rattle.agent_events.specs.declared.events.Input.{Input}
+use Rattle.agent_events.specs.declared.events.Input.TheVariants.{Datagram, Up, Ready, Message, Broken, Down, Tick, Drain, Leave}
 use Rattle.agent_core.specs.Places.{Event, Place, Taking, live, now, waiting}
 use Rattle.agent_core.specs.Rooms.{refusal, rooms}
 use Rattle.agent_core.specs.Verdict.{Request, verdict}

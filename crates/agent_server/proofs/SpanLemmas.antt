@@ -5,24 +5,27 @@ use Rattle.std.specs.Option.{option_or}
 use Rattle.std.proofs.lemmas.Bool.{leb-true, le-leb, or_cases}
 use Rattle.std.proofs.lemmas.List.{append-nil, length-append}
 use Rattle.std.proofs.lemmas.List.Elements.{All-head, All-nil, All-push, All-tail}
-use Rattle.agent_config.specs.declared.config.Config.{Config}
+use Rattle.agent_settings.specs.declared.config.Config.{Config}
 use Rattle.peer_machine.specs.declared.Phase.{Phase}
 use Rattle.peer_machine.specs.declared.Phase.TheVariants.{Closed}
 use Rattle.peer_machine.specs.declared.LinkCause.{LinkCause}
 use Rattle.peer_machine.specs.Rules.{may_begin}
-use Rattle.agent_core.specs.declared.events.Input.{Input}
-use Rattle.agent_core.specs.declared.events.Input.TheVariants.{Up, Ready, Drain, Leave}
-use Rattle.agent_core.specs.declared.events.Output.{Output}
-use Rattle.agent_core.specs.Places.{Event, Place, begins, is_drain, link, now}
+use Rattle.agent_events.specs.declared.events.Input.{Input}
+use Rattle.agent_events.specs.declared.events.Input.TheVariants.{Up, Ready, Drain, Leave}
+use Rattle.agent_events.specs.declared.events.Output.{Output}
+use Rattle.agent_core.specs.Places.{Event, Place, begins, link, now}
+use Rattle.agent_events.specs.Kinds.{is_drain}
 use Rattle.agent_core.specs.History.{at_input, past, place, places}
 use Rattle.turnstile.specs.Turns.{of, plain}
-use Rattle.agent_server.specs.declared.heard.Heard.{Heard}
-use Rattle.agent_server.specs.Entries.{EachEntry, RunTurn, handed_at, is_final, octets_in, octets_of, sends}
-use Rattle.agent_server.specs.Runs.{IsRun, IsRunFrom, closed, event_of, handed_over, has_left, heard_at, history, is_leave, last_cause, places_of, sends_in, unsent}
-use Rattle.agent_server.specs.Spans.{AreSpans, ClosingsFit, IsClosed, IsSpan, IsWithin, ServerTurn, SpanFits, SpansFit, causes_in, closings, flat, is_beginning, link_sends}
+use Rattle.server_workers.specs.declared.heard.Heard.{Heard}
+use Rattle.server_workers.specs.Entries.{EachEntry, RunTurn, handed_at, is_final, octets_in, octets_of, sends}
+use Rattle.agent_server.specs.Runs.{IsRun, IsRunFrom, closed, event_of, handed_over, has_left, heard_at, history, last_cause, places_of, sends_in, unsent}
+use Rattle.agent_events.specs.Kinds.{is_leave}
+use Rattle.agent_server.specs.Spans.{ClosingsFit, SpanFits, SpansFit, causes_in, closings, link_sends}
+use Rattle.server_workers.specs.Segments.{AreSpans, IsClosed, IsSpan, IsWithin, ServerTurn, flat, is_beginning}
 use Rattle.agent_server.proofs.LinkHistory.{IsShut, Moves, closed-phase, moves-at, or-none, shut-more}
 use Rattle.agent_server.proofs.PlaceLemmas.{place-at}
-use Rattle.agent_server.proofs.TurnLemmas.{plain-append}
+use Rattle.server_workers.proofs.TurnLemmas.{plain-append}
 
 -- ---- runs
 

@@ -9,7 +9,7 @@ use Rattle.wire_core.specs.Counts.{Rose}
 use Rattle.atomic_table.specs.Seated.{TableId}
 use Rattle.radius_packet.specs.declared.reasons.Via.{Via}
 use Rattle.radius_packet.specs.declared.reasons.Via.TheVariants.{Auth, Acct}
-use Rattle.agent_config.specs.declared.config.Config.{Config}
+use Rattle.agent_settings.specs.declared.config.Config.{Config}
 use Rattle.agent_status.specs.declared.status.Status.{Status}
 use Rattle.agent_status.specs.declared.status.Status.TheVariants.{DatagramFault, LinkFault, OutOfMemory}
 use Rattle.wire_devices.specs.Dialling.{Dials}
@@ -21,42 +21,43 @@ use Rattle.turnstile.specs.declared.view.Known.{Known}
 use Rattle.turnstile.specs.Knowing.{Carries, left_of, right_of}
 use Rattle.turnstile.specs.Passes.{known}
 use Rattle.turnstile.specs.Turns.{In, Numbered, greatest, least, of, plain, without}
-use Rattle.agent_core.specs.declared.events.Input.{Input}
-use Rattle.agent_core.specs.declared.events.Input.TheVariants as inputs
+use Rattle.agent_events.specs.declared.events.Input.{Input}
+use Rattle.agent_events.specs.declared.events.Input.TheVariants as inputs
 use Rattle.agent_server.specs.declared.desk.AgentDesk.{AgentDesk}
 use Rattle.agent_server.specs.declared.desk.DeskEnd.{DeskEnd}
-use Rattle.agent_server.specs.declared.desk.RunBase.{RunBase}
-use Rattle.agent_server.specs.declared.heard.Heard.{Heard}
-use Rattle.agent_server.specs.declared.link_making.Dialling.TheVariants as dialling
-use Rattle.agent_server.specs.declared.running.Past.{Past}
-use Rattle.agent_server.specs.declared.running.Twins.{Twins}
+use Rattle.server_workers.specs.declared.base.RunBase.{RunBase}
+use Rattle.server_workers.specs.declared.heard.Heard.{Heard}
+use Rattle.server_workers.specs.declared.link_making.Dialling.TheVariants as dialling
+use Rattle.server_workers.specs.declared.running.Past.{Past}
+use Rattle.server_workers.specs.declared.running.Twins.{Twins}
 use Rattle.agent_server.specs.declared.server.FirstLink.{FirstLink}
 use Rattle.agent_server.specs.declared.server.Stand.{Stand}
 use Rattle.agent_server.specs.declared.server.Team.{Team}
 use Rattle.agent_server.specs.declared.server.Unteamed.{Unteamed}
 use Rattle.agent_server.specs.declared.server.Workers.{Workers}
-use Rattle.agent_server.specs.declared.trail.Pair.{Pair}
+use Rattle.server_workers.specs.declared.links.Pair.{Pair}
 use Rattle.agent_server.specs.declared.trail.Trail.{Trail}
-use Rattle.agent_server.specs.declared.workers.Ended.TheVariants as ended
-use Rattle.agent_server.specs.declared.workers.Worker.{Worker}
-use Rattle.agent_server.specs.declared.workers.Worker.TheVariants as worker
+use Rattle.server_workers.specs.declared.workers.Ended.TheVariants as ended
+use Rattle.server_workers.specs.declared.workers.Worker.{Worker}
+use Rattle.server_workers.specs.declared.workers.Worker.TheVariants as worker
 use Rattle.agent_server.specs.Desks.{AreRead, HasRead, StandsBy}
-use Rattle.agent_server.specs.Entries.{EachEntry, RunTurn, is_entry_of, is_tick, replies_by, ticks, turn_of}
-use Rattle.agent_server.specs.Going.{SeenLast, Went}
-use Rattle.agent_server.specs.Running.{Dialled, IsFinishedTick, NoLeave, Opened, RoseBy, StartedAs}
-use Rattle.agent_server.specs.Runs.{IsRun, has_left, is_leave, places_of}
+use Rattle.server_workers.specs.Entries.{EachEntry, RunTurn, is_entry_of, is_tick, replies_by, ticks, turn_of}
+use Rattle.server_workers.specs.Going.{SeenLast, Went}
+use Rattle.server_workers.specs.Running.{Dialled, IsFinishedTick, NoLeave, Opened, RoseBy, StartedAs}
+use Rattle.agent_server.specs.Runs.{IsRun, has_left, places_of}
+use Rattle.agent_events.specs.Kinds.{is_leave}
 use Rattle.agent_server.specs.Server.{EndsEarly, HasPassed, Holds, Served}
-use Rattle.agent_server.specs.Serving.{IsTick}
-use Rattle.agent_server.specs.Serving.Spans.{no_more}
-use Rattle.agent_server.specs.SocketReading.{ReadsSocket}
-use Rattle.agent_server.specs.Spans.{IsClosed, ServerTurn}
+use Rattle.server_workers.specs.Serving.{IsTick}
+use Rattle.server_workers.specs.Serving.Spans.{no_more}
+use Rattle.server_workers.specs.SocketReading.{ReadsSocket}
+use Rattle.server_workers.specs.Segments.{IsClosed, ServerTurn}
 use Rattle.agent_server.specs.Starting.{Alike, FinishedAlone, FirstFails, FirstOpened, IsAlone, IsLinkReader, IsLinkReaderOf, IsRead, IsReader, IsReaderOf, IsSocketBack, IsStart, StartsFor}
-use Rattle.agent_server.specs.Workers.{CanRun, Ran}
+use Rattle.server_workers.specs.Workers.{CanRun, Ran}
 use Rattle.agent_server.proofs.AskingLemmas.{each-at}
-use Rattle.agent_server.proofs.GoingLemmas.{went-on}
-use Rattle.agent_server.proofs.LinkOverLemmas.{each-weaker}
+use Rattle.server_workers.proofs.GoingLemmas.{went-on}
+use Rattle.server_workers.proofs.LinkOverLemmas.{each-weaker}
 use Rattle.agent_server.proofs.SpanLemmas.{finished-by, leave-there}
-use Rattle.agent_server.proofs.TurnLemmas.{of-append}
+use Rattle.server_workers.proofs.TurnLemmas.{of-append}
 
 -- ---- the clock of a turnstile that was closed
 
@@ -331,7 +332,7 @@ module _ {C : Type 0} where
 -- ---- what the workers begin with
 
 module _ {C D I O : Type 0} (told : D → Socket) (hears : I → Inlet) (speaks : O → Outlet) where
-  pub link-started : (turnstile : TableId) (k l : Known (AgentDesk C) Input Heard) (handed : Worker C D I) (first : FirstLink D I O) (past : Past I O) (d e : Dials)
+  pub link-started : (turnstile : TableId) (k l : Known (AgentDesk C) Input Heard) (handed : Worker (AgentDesk C) D I) (first : FirstLink D I O) (past : Past I O) (d e : Dials)
       → IsLinkReaderOf turnstile 3 l first.pair.link_in first.twins handed → l.numbers ≡ 0 ∷ [] → l.seen ≡ k.seen → FirstOpened hears speaks told first k.seen d e
       → past.pairs.items ≡ [] → past.lost ≡ 0 → past.again ≡ 0 → 256 ≤ vec_capacity past.pairs
       → StartedAs hears speaks told turnstile l handed first.pair.link_out past
@@ -363,7 +364,7 @@ module _ {C D I O : Type 0} (told : D → Socket) (hears : I → Inlet) (speaks 
   link-started turnstile k l (worker.Reader alloc shared pass via socket) first past d e is own seen opened none lost again room = absurd is
 
 module _ {C D I : Type 0} (told : D → Socket) where
-  pub reader-starts : (turnstile : TableId) (via : Via) (n : ℕ) (k l : Known (AgentDesk C) Input Heard) (handed : Worker C D I) (device : D) (before : Socket)
+  pub reader-starts : (turnstile : TableId) (via : Via) (n : ℕ) (k l : Known (AgentDesk C) Input Heard) (handed : Worker (AgentDesk C) D I) (device : D) (before : Socket)
       → IsReaderOf turnstile n via l device handed → l.seen ≡ k.seen → of n k.seen ≡ [] → Alike before (told device) → before.row ≡ 0
       → StartsFor told via n l before handed
   reader-starts turnstile via n k l (worker.Reader alloc shared pass port socket) device before (place, same, is) seen none alike low = (
@@ -378,29 +379,29 @@ module _ {C D I : Type 0} (told : D → Socket) where
   )
   reader-starts turnstile via n k l (worker.Link alloc shared pass link auth acct) device before is seen none alike low = absurd is
 
-  pub reader-can-run : (hears : I → Inlet) (turnstile : TableId) (n : ℕ) (via : Via) (k : Known (AgentDesk C) Input Heard) (device : D) (handed : Worker C D I)
+  pub reader-can-run : (hears : I → Inlet) (turnstile : TableId) (n : ℕ) (via : Via) (k : Known (AgentDesk C) Input Heard) (device : D) (handed : Worker (AgentDesk C) D I)
       → IsReaderOf turnstile n via k device handed → (told device).row ≡ 0 → CanRun told hears handed
   reader-can-run hears turnstile n via k device (worker.Reader alloc shared pass port socket) (place, same, is) low =
       (place.table ∙ sym place.shared, subst (λ (d : D). (told d).row ≡ 0) (sym is) low)
   reader-can-run hears turnstile n via k device (worker.Link alloc shared pass link auth acct) is low = absurd is
 
-  pub link-can-run : (hears : I → Inlet) (turnstile : TableId) (n : ℕ) (k : Known (AgentDesk C) Input Heard) (inlet : I) (twins : Twins D) (handed : Worker C D I)
+  pub link-can-run : (hears : I → Inlet) (turnstile : TableId) (n : ℕ) (k : Known (AgentDesk C) Input Heard) (inlet : I) (twins : Twins D) (handed : Worker (AgentDesk C) D I)
       → IsLinkReaderOf turnstile n k inlet twins handed → IsFreshInlet (hears inlet) → CanRun told hears handed
   link-can-run hears turnstile n k inlet twins (worker.Link alloc shared pass link auth acct) (place, is, auth_is, acct_is) fresh =
       (place.table ∙ sym place.shared, subst (λ (i : I). ((hears i).ends ≡ 0) × ((hears i).faults ≡ 0)) (sym is) (fresh.ends, fresh.faults))
   link-can-run hears turnstile n k inlet twins (worker.Reader alloc shared pass via socket) is fresh = absurd is
 
 module _ {C D I : Type 0} (turnstile : TableId) (n : ℕ) (k : Known (AgentDesk C) Input Heard) where
-  pub reader-at : (via : Via) (device : D) (handed : Worker C D I) → IsReaderOf turnstile n via k device handed → IsReader turnstile n handed
+  pub reader-at : (via : Via) (device : D) (handed : Worker (AgentDesk C) D I) → IsReaderOf turnstile n via k device handed → IsReader turnstile n handed
   reader-at via device (worker.Reader alloc shared pass port socket) (place, same, is) = (place.table, place.numbers)
   reader-at via device (worker.Link alloc shared pass link auth acct) is = absurd is
 
-  link-reader-at : (inlet : I) (twins : Twins D) (handed : Worker C D I) → IsLinkReaderOf turnstile n k inlet twins handed → IsLinkReader turnstile n handed
+  link-reader-at : (inlet : I) (twins : Twins D) (handed : Worker (AgentDesk C) D I) → IsLinkReaderOf turnstile n k inlet twins handed → IsLinkReader turnstile n handed
   link-reader-at inlet twins (worker.Link alloc shared pass link auth acct) (place, is, auth_is, acct_is) = (place.table, place.numbers)
   link-reader-at inlet twins (worker.Reader alloc shared pass via socket) is = absurd is
 
   -- whether or not it was started
-  reader-back-at : (via : Via) (device : D) (handed : Worker C D I) (start : Result (Worker C D I) (Worker C D I)) → IsReaderOf turnstile n via k device handed → IsStart handed start
+  reader-back-at : (via : Via) (device : D) (handed : Worker (AgentDesk C) D I) (start : Result (Worker (AgentDesk C) D I) (Worker (AgentDesk C) D I)) → IsReaderOf turnstile n via k device handed → IsStart handed start
       → MatchResult start (IsReader turnstile n) (IsReader turnstile n)
   reader-back-at via device handed (Ok started) is same = subst (IsReader turnstile n) (sym same) (reader-at via device handed is)
   reader-back-at via device handed (Err back) is same = subst (IsReader turnstile n) (sym same) (reader-at via device handed is)
@@ -435,7 +436,7 @@ some-then : {A : Type 0} (b : Bool) (x : A) → is_some (then_some b x) ≡ b
 some-then true x = refl
 some-then false x = refl
 
-pub socket-ran : {C D I : Type 0} (told : D → Socket) (hears : I → Inlet) (reader : Worker C D I) (socket : D) (pass : PassOf (AgentDesk C) Input Heard) (lost : ℕ)
+pub socket-ran : {C D I : Type 0} (told : D → Socket) (hears : I → Inlet) (reader : Worker (AgentDesk C) D I) (socket : D) (pass : PassOf (AgentDesk C) Input Heard) (lost : ℕ)
     (fault : Option Status) (failed : Bool) → Ran told hears reader (ended.Reader socket pass lost fault) → failed ≡ is_some fault
     → IsSocketBack told (Ok reader) (record { pass = pass; socket = socket; lost = lost; failed = failed })
 socket-ran told hears (worker.Reader alloc shared begun via made) socket pass lost fault failed (table, (there, fault_is, reads)) is = (

@@ -4,27 +4,29 @@ use Rattle.std.specs.List.{All}
 use Rattle.std.proofs.lemmas.Bool.{true≢false, or_cases, le-leb, leb-true}
 use Rattle.std.proofs.lemmas.List.{append-nil, length_push, same_from_push}
 use Rattle.std.proofs.lemmas.List.Elements.{All-head, All-push, All-tail, filter-append}
-use Rattle.agent_config.specs.declared.config.Config.{Config}
+use Rattle.agent_settings.specs.declared.config.Config.{Config}
 use Rattle.peer_machine.specs.declared.LinkCause.{LinkCause}
 use Rattle.peer_machine.specs.declared.LinkCause.TheVariants.{Left, Refused}
 use Rattle.agent_status.specs.declared.status.Status.{Status}
 use Rattle.agent_status.specs.declared.status.Status.TheVariants.{DatagramFault, Done, LinkEnded, PeerRefused}
-use Rattle.agent_core.specs.declared.events.Input.{Input}
-use Rattle.agent_core.specs.declared.events.Input.TheVariants.{Drain, Leave}
+use Rattle.agent_events.specs.declared.events.Input.{Input}
+use Rattle.agent_events.specs.declared.events.Input.TheVariants.{Drain, Leave}
 use Rattle.turnstile.specs.Turns.{of, plain}
-use Rattle.agent_server.specs.declared.heard.Heard.{Heard}
-use Rattle.agent_server.specs.declared.running.RunEnd.{RunEnd}
-use Rattle.agent_server.specs.declared.running.RunEnd.TheVariants as run
-use Rattle.agent_server.specs.Entries.{RunTurn, is_final}
-use Rattle.agent_server.specs.Running.{LeftAtEnd, NoLeave}
-use Rattle.agent_server.specs.Runs.{IsRun, closed, has_left, history, is_leave, places_of}
+use Rattle.server_workers.specs.declared.heard.Heard.{Heard}
+use Rattle.server_workers.specs.declared.running.RunEnd.{RunEnd}
+use Rattle.server_workers.specs.declared.running.RunEnd.TheVariants as run
+use Rattle.server_workers.specs.Entries.{RunTurn, is_final}
+use Rattle.server_workers.specs.Running.{LeftAtEnd, NoLeave}
+use Rattle.agent_server.specs.Runs.{IsRun, closed, has_left, history, places_of}
+use Rattle.agent_events.specs.Kinds.{is_leave}
 use Rattle.agent_server.specs.Server.{AreWorn, Because, HasFinished, IsGiven, LeavesAtEnd, ended_status, others, rank, status_given}
-use Rattle.agent_server.specs.Spans.{ServerTurn, closings}
+use Rattle.agent_server.specs.Spans.{closings}
+use Rattle.server_workers.specs.Segments.{ServerTurn}
 use Rattle.agent_server.proofs.AskingLemmas.{All-left, Asks, leave-at, no-leave, one-leave}
-use Rattle.agent_server.proofs.DialLemmas.{each-append}
+use Rattle.server_workers.proofs.DialLemmas.{each-append}
 use Rattle.agent_server.proofs.LinkHistory.{closed-left}
 use Rattle.agent_server.proofs.SpanLemmas.{finished-by, leave-there}
-use Rattle.agent_server.proofs.TurnLemmas.{of-there, plain-append}
+use Rattle.server_workers.proofs.TurnLemmas.{of-there, plain-append}
 
 -- ---- the moment of a leave
 

@@ -1,14 +1,16 @@
 -- When a desk stands for the turns of a run.
 use Rattle.std.specs.Prelude.{◌≡◌, ℕ, ◌-◌, ◌^◌, Bool, max, min, nat_le, ◌||◌, false, true, ◌+◌, ◌≤◌, List, [], ◌∷◌, ◌++◌, length, Option, Some, None}
 use Rattle.wire_core.specs.Counts.{one_more}
-use Rattle.agent_core.specs.declared.events.Input.{Input}
-use Rattle.agent_core.specs.declared.events.Output.{Output}
-use Rattle.agent_core.specs.Places.{is_drain, now}
+use Rattle.agent_events.specs.declared.events.Input.{Input}
+use Rattle.agent_events.specs.declared.events.Output.{Output}
+use Rattle.agent_core.specs.Places.{now}
+use Rattle.agent_events.specs.Kinds.{is_drain}
 use Rattle.agent_core.specs.Standing.{StandsFor}
 use Rattle.agent_server.specs.declared.desk.AgentDesk.{AgentDesk}
-use Rattle.agent_server.specs.declared.desk.RunBase.{RunBase}
-use Rattle.agent_server.specs.declared.heard.Heard.{Heard}
-use Rattle.agent_server.specs.Runs.{IsRun, closed, closed_with, handed_over, has_left, history, is_leave, others_in, places_of, unsent, unsent_with}
+use Rattle.server_workers.specs.declared.base.RunBase.{RunBase}
+use Rattle.server_workers.specs.declared.heard.Heard.{Heard}
+use Rattle.agent_server.specs.Runs.{IsRun, closed, closed_with, handed_over, has_left, history, others_in, places_of, unsent, unsent_with}
+use Rattle.agent_events.specs.Kinds.{is_leave}
 
 -- Each turn took one reading of the clock, in order, and the moment of an entry is the greatest reading of the entries up
 -- to it, of which this was the greatest before.

@@ -1,13 +1,5 @@
 pub mod Desks
-pub mod Entries
-pub mod Going
-pub mod LinkReading
-pub mod LinkWriting
-pub mod Running
 pub mod Runs
 pub mod Server
-pub mod Serving
-pub mod SocketReading
 pub mod Spans
 pub mod Starting
-pub mod Workers

@@ -2,15 +2,15 @@
 -- entry, which is an ask with its answer, or blank.
 use Rattle.std.specs.Prelude.{◌≡◌, ℕ, Bool, true, false, nat_le, not, ◌||◌, List, [], ◌∷◌, ◌++◌, filter, Option, Some, None, if◌then◌else◌}
 use Rattle.std.specs.Option.{option_or}
-use Rattle.agent_config.specs.declared.config.Config.{Config}
+use Rattle.agent_settings.specs.declared.config.Config.{Config}
 use Rattle.peer_machine.specs.declared.LinkCause.{LinkCause}
-use Rattle.agent_core.specs.declared.events.Input.{Input}
-use Rattle.agent_core.specs.declared.events.Input.TheVariants.{Leave}
-use Rattle.agent_core.specs.declared.events.Output.{Output}
-use Rattle.agent_core.specs.declared.events.Output.TheVariants.{Send, Closed}
-use Rattle.agent_core.specs.Places.{Event, Place, begins, is_drain}
+use Rattle.agent_events.specs.declared.events.Input.{Input}
+use Rattle.agent_events.specs.Kinds.{is_drain, is_leave}
+use Rattle.agent_events.specs.declared.events.Output.{Output}
+use Rattle.agent_events.specs.declared.events.Output.TheVariants.{Send, Closed}
+use Rattle.agent_core.specs.Places.{Event, Place, begins}
 use Rattle.agent_core.specs.History.{past, place}
-use Rattle.agent_server.specs.declared.heard.Heard.{Heard}
+use Rattle.server_workers.specs.declared.heard.Heard.{Heard}
 
 -- ---- outputs
 
@@ -52,10 +52,6 @@ closed_with begun before outputs = option_or (last_cause outputs) (if begun then
 abbrev pub closed : List Place → Option LinkCause
 closed [] = None
 closed (p ∷ ps) = closed_with (begins ps p.input) (closed ps) p.outputs
-
-abbrev pub is_leave : Input → Bool
-is_leave Leave = true
-is_leave input = false
 
 -- a Leave came in
 abbrev pub has_left : List Place → Bool

@@ -2,7 +2,7 @@
 use Rattle.std.specs.Prelude.{◌≡◌, ◌≢◌, ℕ, zero, suc, ◌+◌, ◌-◌, ◌^◌, ◌<◌, ◌≤◌, ◌⊎◌, min, nat_le, Bool, true, if◌then◌else◌, not, List, [], ◌∷◌, ◌++◌, length, filter, All, Option, Some, None}
 use Rattle.wire_core.specs.Counts.{Rose}
 use Rattle.radius_packet.specs.declared.reasons.Via.TheVariants.{Auth, Acct}
-use Rattle.agent_config.specs.declared.config.Config.{Config}
+use Rattle.agent_settings.specs.declared.config.Config.{Config}
 use Rattle.peer_machine.specs.declared.LinkCause.{LinkCause}
 use Rattle.peer_machine.specs.declared.LinkCause.TheVariants.{Refused, Left}
 use Rattle.agent_status.specs.declared.status.Status.{Status}
@@ -11,22 +11,23 @@ use Rattle.wire_devices.specs.Dialling.{Dials}
 use Rattle.wire_devices.specs.Links.{Inlet, Outlet}
 use Rattle.wire_devices.specs.Sockets.{Socket}
 use Rattle.wire_devices.specs.Telling.{TellsOnly}
-use Rattle.agent_core.specs.declared.events.Input.{Input}
-use Rattle.agent_core.specs.declared.events.Input.TheVariants.{Leave}
+use Rattle.agent_events.specs.declared.events.Input.{Input}
+use Rattle.agent_events.specs.declared.events.Input.TheVariants.{Leave}
 use Rattle.turnstile.specs.Turns.{Numbered, of, plain}
-use Rattle.agent_server.specs.declared.heard.Heard.{Heard}
-use Rattle.agent_server.specs.declared.running.RunEnd.{RunEnd}
-use Rattle.agent_server.specs.declared.running.RunEnd.TheVariants as run
-use Rattle.agent_server.specs.declared.trail.Pair.{Pair}
+use Rattle.server_workers.specs.declared.heard.Heard.{Heard}
+use Rattle.server_workers.specs.declared.running.RunEnd.{RunEnd}
+use Rattle.server_workers.specs.declared.running.RunEnd.TheVariants as run
+use Rattle.server_workers.specs.declared.links.Pair.{Pair}
 use Rattle.agent_server.specs.declared.trail.Trail.{Trail}
 use Rattle.agent_server.specs.Desks.{HasRead}
-use Rattle.agent_server.specs.Entries.{RunTurn, is_final, replies_by, ticks}
-use Rattle.agent_server.specs.LinkReading.{LinkMayTake}
-use Rattle.agent_server.specs.Running.{LeftAtEnd, RoseBy}
+use Rattle.server_workers.specs.Entries.{RunTurn, is_final, replies_by, ticks}
+use Rattle.server_workers.specs.LinkReading.{LinkMayTake}
+use Rattle.server_workers.specs.Running.{LeftAtEnd, RoseBy}
 use Rattle.agent_server.specs.Runs.{IsRun, history, places_of}
-use Rattle.agent_server.specs.Serving.{AreUnopened, IsUp, MayWrite, Spanned}
-use Rattle.agent_server.specs.SocketReading.{ServedSocket, SocketMayTake}
-use Rattle.agent_server.specs.Spans.{AreSpans, ServerTurn, SpansFit, closings}
+use Rattle.server_workers.specs.Serving.{AreUnopened, IsUp, MayWrite, Spanned}
+use Rattle.server_workers.specs.SocketReading.{ServedSocket, SocketMayTake}
+use Rattle.agent_server.specs.Spans.{SpansFit, closings}
+use Rattle.server_workers.specs.Segments.{AreSpans, ServerTurn}
 
 -- ---- who asks what
 

@@ -10,7 +10,7 @@ use Rattle.agent_status.specs.declared.status.Status.TheVariants.{DatagramFault,
 use Rattle.wire_devices.specs.Dialling.{Dials}
 use Rattle.wire_devices.specs.Links.{Inlet, Outlet, IsFreshInlet, IsFreshOutlet}
 use Rattle.wire_devices.specs.Sockets.{Socket, Twinned, IsFreshSocket}
-use Rattle.agent_core.specs.declared.events.Input.{Input}
+use Rattle.agent_events.specs.declared.events.Input.{Input}
 use Rattle.atomic_table.specs.Seated.{TableId}
 use Rattle.turnstile.specs.declared.pass.PassOf.{PassOf}
 use Rattle.turnstile.specs.declared.view.Known.{Known}
@@ -18,24 +18,24 @@ use Rattle.turnstile.specs.Knowing.{Carries}
 use Rattle.turnstile.specs.Passes.{known, table_of}
 use Rattle.turnstile.specs.Turns.{Numbered, of, plain}
 use Rattle.agent_server.specs.declared.desk.AgentDesk.{AgentDesk}
-use Rattle.agent_server.specs.declared.desk.RunBase.{RunBase}
-use Rattle.agent_server.specs.declared.heard.Heard.{Heard}
-use Rattle.agent_server.specs.declared.running.Past.{Past}
-use Rattle.agent_server.specs.declared.running.RunEnd.{RunEnd}
-use Rattle.agent_server.specs.declared.running.Twins.{Twins}
+use Rattle.server_workers.specs.declared.base.RunBase.{RunBase}
+use Rattle.server_workers.specs.declared.heard.Heard.{Heard}
+use Rattle.server_workers.specs.declared.running.Past.{Past}
+use Rattle.server_workers.specs.declared.running.RunEnd.{RunEnd}
+use Rattle.server_workers.specs.declared.running.Twins.{Twins}
 use Rattle.agent_server.specs.declared.server.FirstLink.{FirstLink}
 use Rattle.agent_server.specs.declared.server.Shares.{Shares}
 use Rattle.agent_server.specs.declared.server.SocketBack.{SocketBack}
 use Rattle.agent_server.specs.declared.server.Stand.{Stand}
-use Rattle.agent_server.specs.declared.workers.Worker.{Worker}
-use Rattle.agent_server.specs.declared.workers.Worker.TheVariants as worker
+use Rattle.server_workers.specs.declared.workers.Worker.{Worker}
+use Rattle.server_workers.specs.declared.workers.Worker.TheVariants as worker
 use Rattle.agent_server.specs.Desks.{HasRead, StandsBy}
-use Rattle.agent_server.specs.Entries.{EachEntry, EndsWith, ticks}
-use Rattle.agent_server.specs.Running.{Ends, IsFinishedTick, Opened, RoseBy}
+use Rattle.server_workers.specs.Entries.{EachEntry, EndsWith, ticks}
+use Rattle.server_workers.specs.Running.{Ends, IsFinishedTick, Opened, RoseBy}
 use Rattle.agent_server.specs.Runs.{IsRun}
-use Rattle.agent_server.specs.Serving.{IsTick}
-use Rattle.agent_server.specs.SocketReading.{ReadsSocket}
-use Rattle.agent_server.specs.Spans.{ServerTurn}
+use Rattle.server_workers.specs.Serving.{IsTick}
+use Rattle.server_workers.specs.SocketReading.{ReadsSocket}
+use Rattle.server_workers.specs.Segments.{ServerTurn}
 
 -- ---- before the first link
 
@@ -114,30 +114,30 @@ pub record IsPlace {C : Type 0} (turnstile : TableId) (number : ℕ) (k : Known 
 
 module _ {C D I : Type 0} where
   -- the reader of this socket, and of this link with the twins, at its place
-  abbrev pub IsReaderOf : TableId → ℕ → Via → Known (AgentDesk C) Input Heard → D → Worker C D I → Type 0
+  abbrev pub IsReaderOf : TableId → ℕ → Via → Known (AgentDesk C) Input Heard → D → Worker (AgentDesk C) D I → Type 0
   IsReaderOf turnstile number via k device (worker.Reader alloc shared pass port socket) =
       IsPlace turnstile number k (arc_value shared) pass × (port ≡ via) × (socket ≡ device)
   IsReaderOf turnstile number via k device (worker.Link alloc shared pass link auth acct) = ⊥
 
-  abbrev pub IsLinkReaderOf : TableId → ℕ → Known (AgentDesk C) Input Heard → I → Twins D → Worker C D I → Type 0
+  abbrev pub IsLinkReaderOf : TableId → ℕ → Known (AgentDesk C) Input Heard → I → Twins D → Worker (AgentDesk C) D I → Type 0
   IsLinkReaderOf turnstile number k inlet twins (worker.Link alloc shared pass link auth acct) =
       IsPlace turnstile number k (arc_value shared) pass × (link ≡ inlet) × (auth ≡ twins.auth) × (acct ≡ twins.acct)
   IsLinkReaderOf turnstile number k inlet twins (worker.Reader alloc shared pass via socket) = ⊥
 
-  abbrev pub IsReader : TableId → ℕ → Worker C D I → Type 0
+  abbrev pub IsReader : TableId → ℕ → Worker (AgentDesk C) D I → Type 0
   IsReader turnstile number (worker.Reader alloc shared pass via socket) = IsAt turnstile number (table_of pass) (known pass)
   IsReader turnstile number (worker.Link alloc shared pass link auth acct) = ⊥
 
-  abbrev pub IsLinkReader : TableId → ℕ → Worker C D I → Type 0
+  abbrev pub IsLinkReader : TableId → ℕ → Worker (AgentDesk C) D I → Type 0
   IsLinkReader turnstile number (worker.Link alloc shared pass link auth acct) = IsAt turnstile number (table_of pass) (known pass)
   IsLinkReader turnstile number (worker.Reader alloc shared pass via socket) = ⊥
 
-  abbrev pub IsSocketWorker : Worker C D I → Type 0
+  abbrev pub IsSocketWorker : Worker (AgentDesk C) D I → Type 0
   IsSocketWorker (worker.Reader alloc shared pass via socket) = Unit {0}
   IsSocketWorker (worker.Link alloc shared pass link auth acct) = ⊥
 
   -- a start gave this worker, whether or not it was started
-  abbrev pub IsStart : Worker C D I → Result (Worker C D I) (Worker C D I) → Type 0
+  abbrev pub IsStart : Worker (AgentDesk C) D I → Result (Worker (AgentDesk C) D I) (Worker (AgentDesk C) D I) → Type 0
   IsStart handed (Ok started) = started ≡ handed
   IsStart handed (Err back) = back ≡ handed
 
@@ -151,12 +151,12 @@ pub record ReadsFor {C : Type 0} (via : Via) (number : ℕ) (k begin : Known (Ag
 
 module _ {C D : Type 0} (told : D → Socket) where
   -- its worker
-  abbrev pub StartsFor : {I : Type 0} → Via → ℕ → Known (AgentDesk C) Input Heard → Socket → Worker C D I → Type 0
+  abbrev pub StartsFor : {I : Type 0} → Via → ℕ → Known (AgentDesk C) Input Heard → Socket → Worker (AgentDesk C) D I → Type 0
   StartsFor {I} via number k before (worker.Reader alloc shared pass port socket) = (port ≡ via) × ReadsFor via number k (known pass) before (told socket)
   StartsFor {I} via number k before (worker.Link alloc shared pass link auth acct) = ⊥
 
   -- the reader of a socket that ran, or was never started
-  abbrev pub IsSocketBack : {I : Type 0} → Result (Worker C D I) (Worker C D I) → SocketBack C D → Type 0
+  abbrev pub IsSocketBack : {I : Type 0} → Result (Worker (AgentDesk C) D I) (Worker (AgentDesk C) D I) → SocketBack C D → Type 0
   IsSocketBack {I} (Ok (worker.Reader alloc shared pass via socket)) back =
       (table_of back.pass ≡ table_of pass)
       × ReadsSocket via (known pass) (known back.pass) (told socket) (told back.socket) back.lost back.failed

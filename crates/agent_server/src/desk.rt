@@ -2,18 +2,19 @@
 
 ghost use Rattle.std.specs.Prelude.{◌≡◌, ◌+◌, ◌<◌, ◌≤◌, ◌++◌, [], ◌∷◌, List, ℕ, length, map, vec_capacity, vec_len, true, false, IfOk, OnErr, Some, None};
 ghost use Rattle.wire_core.specs.Counts.{one_more};
-ghost use Rattle.agent_core.specs.Places.{Event, begins as begins_link, is_drain as drain_test, is_serving, now, waiting, link};
+ghost use Rattle.agent_core.specs.Places.{Event, begins as begins_link, is_serving, now, waiting, link};
+ghost use Rattle.agent_events.specs.Kinds.{is_drain as drain_test};
 ghost use Rattle.agent_core.specs.History.{outputs_after, past};
 ghost use Rattle.agent_core.specs.Standing.{StandsFor};
 ghost use Rattle.agent_server.specs.Desks.{Enters, HasRead, HasRoom, IsCalm, IsSame, StandsBy};
-ghost use Rattle.agent_server.specs.Runs.{closed_with, handed_over, is_leave as leave_test, is_send as send_test, last_cause, others_in, sends_in};
+ghost use Rattle.agent_server.specs.Runs.{closed_with, handed_over, is_send as send_test, last_cause, others_in, sends_in};
+ghost use Rattle.agent_events.specs.Kinds.{is_leave as leave_test};
 
-use crate::heard::Heard;
-use agent_config::Config;
-use agent_core::{Core, Input, Output, Outputs};
+use agent_core::Core;
+use agent_events::{Input, Output, Outputs};
 use peer_machine::{LinkCause, Phase};
+use server_workers::{Heard, RunBase};
 use std::alloc::Global;
-use std::collections::LinkedList;
 use std::mem;
 use turnstile::Desk;
 use wire_core::NoMemory;
@@ -21,15 +22,6 @@ use wire_devices::Clock;
 
 /// How many things go out for one event beside what is sent again.
 const MOST_OUTPUTS: usize = 3;
-
-/// What a run begins from: the settings, the moment of its end, and the clock's readings before the first turn. Contracts
-/// alone speak of it.
-#[derive(Drop)]
-pub struct RunBase {
-    pub config: Config,
-    pub until: u64,
-    pub before: LinkedList<u64>,
-}
 
 /// One core behind a clock, and what was sent on the link and is to be handed over. Contracts say for which turns it
 /// stands.

@@ -2,19 +2,13 @@
 #![tactic(auto)]
 
 mod desk;
-mod heard;
-mod link_making;
-mod link_reader;
-mod link_writer;
-mod running;
 mod server;
-mod socket_reader;
 mod trail;
-mod turns;
-mod workers;
 
-pub use desk::{AgentDesk, RunBase};
-pub use heard::Heard;
+pub use desk::AgentDesk;
 pub use server::{Finish, World, serve};
-pub use trail::{Links, Pair, Trail};
-pub use workers::{Ended, Worker};
+pub use server_workers::{Ended, Heard, Links, Pair, RunBase};
+pub use trail::Trail;
+
+/// What a thread of the server does.
+pub type Worker<C, D, I> = server_workers::Worker<AgentDesk<C>, D, I>;

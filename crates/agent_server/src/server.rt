@@ -4,7 +4,7 @@ ghost use Rattle.std.specs.Prelude.{◌≡◌, ◌≤◌, ◌⊎◌, ℕ, List, 
 ghost use Rattle.std.specs.Arc.{arc_value};
 ghost use Rattle.wire_core.specs.Counts.{Rose};
 ghost use Rattle.radius_packet.specs.declared.reasons.Via.TheVariants.{Auth, Acct};
-ghost use Rattle.agent_config.specs.Config.{InLimits};
+ghost use Rattle.agent_settings.specs.Config.{InLimits};
 ghost use Rattle.agent_status.specs.declared.status.Status.TheVariants.{NoThread, OutOfMemory};
 ghost use Rattle.wire_devices.specs.Dialling.{Dials};
 ghost use Rattle.wire_devices.specs.Links.{IsFreshInlet};
@@ -14,24 +14,25 @@ ghost use Rattle.turnstile.specs.Knowing.{Carries};
 ghost use Rattle.turnstile.specs.Passes.{known, table_of};
 ghost use Rattle.turnstile.specs.Turns.{of};
 ghost use Rattle.agent_server.specs.Desks.{HasRead, StandsBy};
-ghost use Rattle.agent_server.specs.Entries.{ticks};
-ghost use Rattle.agent_server.specs.Running.{RoseBy, StartedAs};
+ghost use Rattle.server_workers.specs.Entries.{ticks};
+ghost use Rattle.server_workers.specs.Running.{RoseBy, StartedAs};
 ghost use Rattle.agent_server.specs.Server.{EndsEarly, Served, status_given};
 ghost use Rattle.agent_server.specs.Starting.{Alike, AllDone, AreShares, FirstFails, FirstOpened, IsAt, IsLinkReader, IsLinkReaderOf, IsRead, IsReader, IsReaderOf, IsReady, IsSocketBack, IsSocketWorker, IsStart, StartsFor};
-ghost use Rattle.agent_server.specs.Workers.{CanRun};
+ghost use Rattle.server_workers.specs.Workers.{CanRun};
 
-use crate::desk::{AgentDesk, DeskEnd, RunBase};
-use crate::heard::Heard;
-use crate::link_making::{Dialling, dial};
-use crate::running::{Live, MOST_LINKS, Past, RunEnd, Twins, reader_unstarted, serve_links};
-use crate::trail::{Links, Pair, Trail};
-use crate::turns::enter;
-use crate::workers::{Ended, Shared, Worker};
-use agent_config::Config;
-use agent_core::{Core, Input};
+use crate::Worker;
+use crate::desk::{AgentDesk, DeskEnd};
+use crate::trail::Trail;
+use agent_core::Core;
+use agent_events::Input;
+use agent_settings::Config;
 use agent_status::Status;
 use peer_machine::LinkCause;
 use radius_packet::Via;
+use server_workers::{
+    Dialling, Ended, Heard, Links, Live, MOST_LINKS, Pair, Past, RunBase, RunEnd, Shared, Twins,
+    dial, enter, reader_unstarted, serve_links,
+};
 use std::alloc::Global;
 use std::hash::RandomState;
 use std::sync::{Arc, Wait};
@@ -68,21 +69,21 @@ struct Outcome<C, D, I, O> {
 /// A share of the turnstile for each worker.
 #[derive(Drop)]
 struct Shares<C: Clock> {
-    auth: Shared<C>,
-    acct: Shared<C>,
-    link: Shared<C>,
+    auth: Shared<AgentDesk<C>>,
+    acct: Shared<AgentDesk<C>>,
+    link: Shared<AgentDesk<C>>,
 }
 
 /// A turnstile that was started, with a share of it for each worker, and room for the links.
 struct Stand<C: Clock, I, O> {
-    turnstile: Shared<C>,
+    turnstile: Shared<AgentDesk<C>>,
     shares: Shares<C>,
     pass: Pass<AgentDesk<C>>,
     past: Past<I, O>,
 }
 
 /// Makes a share of the turnstile for each worker.
-fn make_shares<C: Clock + Drop>(turnstile: &Shared<C>) -> Option<Shares<C>>
+fn make_shares<C: Clock + Drop>(turnstile: &Shared<AgentDesk<C>>) -> Option<Shares<C>>
     ensures { IfSome result (AreShares (arc_value turnstile.now)) }
 {
     let auth = Arc::try_clone(turnstile).ok()?;
@@ -183,7 +184,7 @@ struct FirstLink<D, I, O> {
 /// Makes the first link and opens it, and makes the twins of the sockets. Else it says how the run ends.
 fn first_link<R, C, D, L>(
     rt: &R,
-    turnstile: &Shared<C>,
+    turnstile: &Shared<AgentDesk<C>>,
     pass: &mut Pass<AgentDesk<C>>,
     dialer: &mut L,
     auth: &mut D,
@@ -241,7 +242,7 @@ struct Workers<C: Clock, D, I> {
 /// Makes the three workers. Each has a share of the turnstile and a number of the writer's pass.
 fn make_workers<C: Clock + Drop, D, I>(
     alloc: Global,
-    turnstile: &Shared<C>,
+    turnstile: &Shared<AgentDesk<C>>,
     pass: &mut Pass<AgentDesk<C>>,
     shares: Shares<C>,
     auth: D,
@@ -360,7 +361,7 @@ where
 /// Makes the three workers and starts them.
 fn start_workers<C, D, I, W>(
     alloc: Global,
-    turnstile: &Shared<C>,
+    turnstile: &Shared<AgentDesk<C>>,
     pass: &mut Pass<AgentDesk<C>>,
     shares: Shares<C>,
     crew: &mut W,
@@ -450,7 +451,7 @@ where
 /// Ends a run of which a worker couldn't be started at first.
 fn disband<R, C, D, I, O, W>(
     rt: &R,
-    turnstile: &Shared<C>,
+    turnstile: &Shared<AgentDesk<C>>,
     mut pass: Pass<AgentDesk<C>>,
     crew: &mut W,
     team: Unteamed<C, D, I>,
@@ -513,7 +514,7 @@ fn status_of(end: RunEnd, socket_failed: bool, closed: Option<LinkCause>, links:
 fn lead<R, C, D, L, W>(
     rt: &R,
     alloc: Global,
-    turnstile: &Shared<C>,
+    turnstile: &Shared<AgentDesk<C>>,
     mut pass: Pass<AgentDesk<C>>,
     dialer: &mut L,
     crew: &mut W,
@@ -554,7 +555,7 @@ where
 
 /// Joins the passes of the sockets' readers, closes the turnstile, and says how the run ended.
 fn conclude<C, D, I, O>(
-    turnstile: &Shared<C>,
+    turnstile: &Shared<AgentDesk<C>>,
     mut pass: Pass<AgentDesk<C>>,
     end: RunEnd,
     twins: Twins<D>,

@@ -3,9 +3,9 @@ use Rattle.std.proofs.Common.{◌≡◌, ℕ, ◌+◌, ◌<◌, ◌≤◌, ◌�
 use Rattle.std.proofs.lemmas.List.{append-nil, length-append}
 use Rattle.wire_core.specs.Counts.{Rose}
 use Rattle.wire_core.proofs.SourceLaws.{Consumes-told}
-use Rattle.agent_config.specs.declared.config.Config.{Config}
+use Rattle.agent_settings.specs.declared.config.Config.{Config}
 use Rattle.agent_config.specs.Settings.{settings_in}
-use Rattle.agent_config.specs.Config.{InLimits, are_settings_in_limits}
+use Rattle.agent_settings.specs.Config.{InLimits, are_settings_in_limits}
 use Rattle.peer_machine.specs.declared.LinkCause.{LinkCause}
 use Rattle.agent_status.specs.declared.status.Status.{Status}
 use Rattle.agent_status.specs.declared.status.Status.TheVariants.{Done, Usage, BadConfig, BadTranscript, ReadFault, WriteFault, OutOfMemory, TooLong, LinkFault, PeerRefused, NoThread, DatagramFault, LinkEnded}
@@ -15,7 +15,7 @@ use Rattle.wire_devices.specs.Sockets.{Socket}
 use Rattle.wire_devices.specs.Telling.{Adds}
 use Rattle.agent_server.specs.declared.trail.Trail.{Trail}
 use Rattle.agent_server.specs.Desks.{AreRead, HasRead}
-use Rattle.agent_server.specs.Entries.{RunTurn}
+use Rattle.server_workers.specs.Entries.{RunTurn}
 use Rattle.agent_server.specs.Server.{Because, EndsEarly, Served}
 use Rattle.text_commands.specs.SettingsInput.{SettingsNot, SettingsTaken}
 use Rattle.text_commands.specs.Tasks.{EndsCounts}

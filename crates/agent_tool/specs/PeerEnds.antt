@@ -16,7 +16,7 @@ use Rattle.text_commands.specs.WholeInput.{most_whole}
 use Rattle.peer_runs.specs.HomeRuns.{HomeBy, IsSound}
 use Rattle.peer_runs.specs.NasRuns.{NasEnds}
 use Rattle.peer_runs.specs.Until.{InTime, TimeIsOver}
-use Rattle.agent_server.specs.declared.trail.Pair.{Pair}
+use Rattle.server_workers.specs.declared.links.Pair.{Pair}
 
 -- the two ends of a link, where there is one
 abbrev pub link_of : {I O : Type 0} → Option (Pair I O) → Option (I × O)

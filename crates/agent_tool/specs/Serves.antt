@@ -3,7 +3,7 @@ use Rattle.std.specs.Prelude.{◌≡◌, ℕ, ◌<◌, ◌⊎◌, ◌/◌, ◌%�
 use Rattle.std.specs.Option.{option_or}
 use Rattle.wire_core.specs.Counts.{Rose}
 use Rattle.wire_core.specs.Sink.{Appends, AppendsPrefix}
-use Rattle.agent_config.specs.declared.config.Config.{Config}
+use Rattle.agent_settings.specs.declared.config.Config.{Config}
 use Rattle.agent_status.specs.declared.status.Status.{Status}
 use Rattle.agent_status.specs.declared.status.Status.TheVariants.{Done, Usage, BadConfig, BadTranscript, ReadFault, PeerRefused, WriteFault, OutOfMemory, LinkEnded, TooLong}
 use Rattle.wire_devices.specs.Dialling.{Dials}

@@ -1,6 +1,6 @@
 -- How the commands end that go from text to text.
 use Rattle.std.specs.Prelude.{◌≡◌, ℕ, ◌≤◌, Bool, true, false, List, length, Option, Some, None, Ok}
-use Rattle.agent_config.specs.declared.config.Config.{Config}
+use Rattle.agent_settings.specs.declared.config.Config.{Config}
 use Rattle.agent_config.specs.Settings.{settings_in}
 use Rattle.agent_status.specs.declared.status.Status.{Status}
 use Rattle.transcript.specs.Streams.{most_octets}

@@ -2,7 +2,7 @@
 
 ghost use Rattle.std.specs.Prelude.{◌≡◌, ◌≢◌, ◌⊎◌, ◌↔◌, ◌≤◌, ◌∷◌, [], ◌++◌, List, ℕ, length, Ok, Some, None, IfSome, IfNone, option_map, false};
 ghost use Rattle.wire_core.specs.Counts.{Rose};
-ghost use Rattle.agent_config.specs.declared.config.Config.{Config};
+ghost use Rattle.agent_settings.specs.declared.config.Config.{Config};
 ghost use Rattle.agent_config.specs.Settings.{settings_in};
 ghost use Rattle.agent_server.specs.Desks.{HasRead};
 ghost use Rattle.text_commands.specs.SettingsInput.{SettingsNot};

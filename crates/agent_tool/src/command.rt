@@ -9,7 +9,7 @@ use agent_config::read_address;
 use transcript::number_in;
 
 /// The addresses and ports of the sockets that a command wants.
-#[derive(Clone, Copy, Debug, PartialEq, Eq)]
+#[derive(Clone, Copy)]
 pub enum Places {
     /// The server listens at `address`, for logins at the port `auth` and for accounting at `acct`. The home server is the
     /// peer.
@@ -33,7 +33,7 @@ pub enum Places {
 }
 
 /// A command that goes from text to text.
-#[derive(Clone, Copy, Debug, PartialEq, Eq)]
+#[derive(Clone, Copy)]
 pub(crate) enum TextCommand {
     Replay,
     Check,
@@ -45,7 +45,7 @@ pub(crate) enum TextCommand {
 }
 
 /// A command.
-#[derive(Clone, Copy, Debug, PartialEq, Eq)]
+#[derive(Clone, Copy)]
 pub(crate) enum Command {
     Text { command: TextCommand },
     /// A run over sockets, for so many milliseconds.

@@ -2,8 +2,8 @@
 
 ghost use Rattle.std.specs.Prelude.{◌≡◌, ◌≢◌, ◌≤◌, ◌⊎◌, ◌∷◌, [], ◌++◌, ℕ, List, length, Ok, Err, Some, None, IfSome, IfNone, IfOk, IfErr};
 ghost use Rattle.wire_core.specs.Counts.{Rose};
-ghost use Rattle.agent_config.specs.declared.config.Config.{Config};
-ghost use Rattle.agent_config.specs.Config.{InLimits};
+ghost use Rattle.agent_settings.specs.declared.config.Config.{Config};
+ghost use Rattle.agent_settings.specs.Config.{InLimits};
 ghost use Rattle.agent_config.specs.Settings.{settings_in};
 ghost use Rattle.agent_config.specs.declared.fault.ConfigFault.{ConfigFault};
 ghost use Rattle.agent_server.specs.Desks.{HasRead};
@@ -13,8 +13,8 @@ ghost use Rattle.text_commands.specs.WholeInput.{most_whole};
 ghost use Rattle.peer_runs.specs.Until.{until_of};
 ghost use Rattle.agent_tool.specs.Serves.{EndedEarly, EndsBefore, IsRunEnd, IsSoundEnd, RanFor, RanServer, Reports, after_failure, served_line, with_boot};
 
-use agent_config::Config;
 use agent_server::{Finish, Worker, World, serve};
+use agent_settings::Config;
 use agent_status::Status;
 use std::alloc::Global;
 use std::hash::RandomState;

@@ -1,10 +1,12 @@
 //! Steps of a core.
 
 ghost use Rattle.std.specs.Prelude.{IfOk};
-ghost use Rattle.agent_config.specs.Config.{InLimits};
+ghost use Rattle.agent_settings.specs.Config.{InLimits};
 
-use agent_config::{Config, ConfigFault};
-use agent_core::{Core, Input, Output};
+use agent_config::ConfigFault;
+use agent_core::Core;
+use agent_events::{Input, Output};
+use agent_settings::Config;
 use peer_machine::Phase;
 use radius_packet::{Reason, Via};
 use std::alloc::Global;

@@ -3,11 +3,11 @@
 ghost use Rattle.std.specs.Prelude.{◌≡◌, ◌≤◌, IfOk, length};
 ghost use Rattle.radius_packet.specs.Packet.{attributes_in, attributes_text};
 ghost use Rattle.diameter_message.specs.View.{message_view};
-ghost use Rattle.agent_config.specs.Config.{ClientInLimits};
+ghost use Rattle.agent_settings.specs.Config.{ClientInLimits};
 ghost use Rattle.translation.specs.Answers.{outcome};
 ghost use Rattle.translation.specs.declared.service.Service.TheVariants.{Eap};
 
-use agent_config::Client;
+use agent_settings::Client;
 use diameter_message::Message;
 use session_carrier::{Kept, Numbers, Outcome};
 use std::alloc::Global;

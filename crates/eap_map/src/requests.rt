@@ -6,7 +6,7 @@ ghost use Rattle.diameter_avp.specs.Avps.{avps_text};
 ghost use Rattle.diameter_message.specs.Message.{IsMessage};
 ghost use Rattle.diameter_message.specs.Writer.{list_length, with_avps};
 ghost use Rattle.session_carrier.specs.Route.{route_view};
-ghost use Rattle.agent_config.specs.Config.{ClientInLimits};
+ghost use Rattle.agent_settings.specs.Config.{ClientInLimits};
 ghost use Rattle.translation.specs.declared.direction.Direction.TheVariants.{Access};
 ghost use Rattle.translation.specs.Values.{is_good, first_bad};
 ghost use Rattle.eap_map.specs.Passing as passing;
@@ -14,7 +14,7 @@ ghost use Rattle.eap_map.specs.Requests.{eap_image, pieces, request_avps, reques
 
 use crate::payload::put_payload;
 use crate::seen::EapSeen;
-use agent_config::Client;
+use agent_settings::Client;
 use diameter_message::applications::EAP;
 use diameter_message::command_codes::DIAMETER_EAP;
 use diameter_message::command_flags::{PROXIABLE, REQUEST};

@@ -3,7 +3,7 @@
 ghost use Rattle.std.specs.Prelude.{◌≡◌, IfOk};
 ghost use Rattle.radius_packet.specs.Packet.{attributes_in, attributes_text};
 
-use agent_config::{AddressList, Client};
+use agent_settings::{AddressList, Client};
 use radius_packet::Packet;
 use session_carrier::{Kept, Kind2, Numbers};
 use std::alloc::Global;

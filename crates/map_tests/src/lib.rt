@@ -7,6 +7,8 @@ mod accounting;
 #[cfg(test)]
 mod attributes;
 #[cfg(test)]
+mod disconnects;
+#[cfg(test)]
 mod fixtures;
 #[cfg(test)]
 mod maps;

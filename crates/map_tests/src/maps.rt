@@ -4,7 +4,7 @@ ghost use Rattle.std.specs.Prelude.{◌≡◌};
 ghost use Rattle.radius_packet.specs.Packet.{attributes_in, attributes_text};
 
 use crate::fixtures::{ADDRESS, NUMBERS, are, client, kept, shown};
-use agent_config::{Client, is_client_in_limits};
+use agent_settings::{Client, is_client_in_limits};
 use diameter_message::parse;
 use radius_packet::Packet;
 use session_carrier::{Kept, Kind2, Outcome, Route};

@@ -5,7 +5,7 @@ ghost use Rattle.std.specs.Prelude.{◌≡◌};
 ghost use Rattle.radius_packet.specs.Packet.{attributes_in, attributes_text};
 
 use crate::fixtures::{ADDRESS, BARE, NUMBERS, are, client, kept, shown};
-use agent_config::{Client, is_client_in_limits};
+use agent_settings::{Client, is_client_in_limits};
 use attribute_table::row_of_type;
 use diameter_message::parse;
 use radius_packet::{Packet, Reason};

@@ -1,6 +1,7 @@
 //! Turns at a desk of the server.
 
-use agent_core::{Core, Input};
+use agent_core::Core;
+use agent_events::Input;
 use agent_server::{AgentDesk, Heard};
 use octets::settings;
 use peer_machine::LinkCause;

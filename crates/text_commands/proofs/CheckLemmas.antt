@@ -5,7 +5,7 @@ use Rattle.wire_core.specs.Counts.{Rose}
 use Rattle.wire_core.specs.Source.{Consumes}
 use Rattle.wire_core.proofs.SourceLaws.{Consumes-told}
 use Rattle.wire_core.specs.Sink.{Appends, AppendsPrefix}
-use Rattle.agent_config.specs.declared.config.Config.{Config}
+use Rattle.agent_settings.specs.declared.config.Config.{Config}
 use Rattle.agent_config.specs.Settings.{settings_in}
 use Rattle.transcript.specs.SettingsText.{settings_text}
 use Rattle.agent_status.specs.declared.status.Status.{Status}

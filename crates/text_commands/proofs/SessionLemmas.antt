@@ -9,10 +9,10 @@ use Rattle.std.proofs.lemmas.List.Sums.{sum_by-cons}
 use Rattle.std.specs.List.{flat_map}
 use Rattle.wire_core.specs.Sink.{Appends, AppendsPrefix}
 use Rattle.wire_core.proofs.SinkLaws.{Appends-append, Appends-none, AppendsPrefix-append, AppendsPrefix-front}
-use Rattle.agent_config.specs.declared.client.Client.{Client}
-use Rattle.agent_config.specs.declared.config.Config.{Config}
-use Rattle.agent_core.specs.declared.events.Input.{Input}
-use Rattle.agent_core.specs.declared.events.Output.{Output}
+use Rattle.agent_settings.specs.declared.client.Client.{Client}
+use Rattle.agent_settings.specs.declared.config.Config.{Config}
+use Rattle.agent_events.specs.declared.events.Input.{Input}
+use Rattle.agent_events.specs.declared.events.Output.{Output}
 use Rattle.agent_core.specs.declared.ledger.Ledger.{Ledger}
 use Rattle.agent_core.specs.Places.{Event, Place}
 use Rattle.agent_core.specs.History.{place, outputs_after}
@@ -186,3 +186,23 @@ pub client-follows : (r : Result Unit Status) (session : Session) (stage : Stage
     → OnOk r (IsAt session (follow stage (line.Client number client))) → OnOk r (Follows session stage (line.Client number client) written written)
 client-follows (Ok done) session stage number client written at = (at, client-text stage number client written)
 client-follows (Err status) session stage number client written at = tt
+
+-- ---- a control line begins the run, and prints nothing
+
+control-begins : (stage : Stage) (number moment address port : ℕ) (octets : List ℕ)
+    → follow stage (line.Control number moment address port octets) ≡ begun stage
+control-begins (Settings None) number moment address port octets = refl
+control-begins (Settings (Some config)) number moment address port octets = refl
+control-begins (Running config ps) number moment address port octets = refl
+
+control-text : (stage : Stage) (number moment address port : ℕ) (octets : List ℕ) (written : Option (List ℕ))
+    → Appends written written (printed_for stage (line.Control number moment address port octets))
+control-text (Settings told) number moment address port octets written = Appends-none written
+control-text (Running config ps) number moment address port octets written = Appends-none written
+
+pub control-follows : (r : Result Unit Status) (session : Session) (stage : Stage) (number moment address port : ℕ) (octets : List ℕ)
+    (written : Option (List ℕ)) → OnOk r (IsAt session (begun stage))
+    → OnOk r (Follows session stage (line.Control number moment address port octets) written written)
+control-follows (Ok done) session stage number moment address port octets written at =
+    (subst (IsAt session) (sym (control-begins stage number moment address port octets)) at, control-text stage number moment address port octets written)
+control-follows (Err status) session stage number moment address port octets written at = tt

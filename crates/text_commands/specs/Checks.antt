@@ -1,7 +1,7 @@
 -- How the command `check` ends.
 use Rattle.std.specs.Prelude.{◌≡◌, ℕ, List, Option, Some, Ok, Err}
 use Rattle.wire_core.specs.Sink.{Appends, AppendsPrefix}
-use Rattle.agent_config.specs.declared.config.Config.{Config}
+use Rattle.agent_settings.specs.declared.config.Config.{Config}
 use Rattle.agent_config.specs.Settings.{settings_in}
 use Rattle.transcript.specs.SettingsText.{settings_text}
 use Rattle.agent_status.specs.declared.status.Status.{Status}

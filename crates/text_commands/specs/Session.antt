@@ -2,8 +2,8 @@
 use Rattle.std.specs.Prelude.{◌≡◌, ℕ, ◌+◌, ◌-◌, ◌^◌, List, [], ◌∷◌, min, count_by, Option, Some, None, ⊤}
 use Rattle.std.specs.List.{flat_map}
 use Rattle.wire_core.specs.Sink.{Appends}
-use Rattle.agent_config.specs.declared.config.Config.{Config}
-use Rattle.agent_core.specs.declared.events.Output.{Output}
+use Rattle.agent_settings.specs.declared.config.Config.{Config}
+use Rattle.agent_events.specs.declared.events.Output.{Output}
 use Rattle.agent_core.specs.declared.ledger.Ledger.{Ledger}
 use Rattle.agent_core.specs.Places.{Event, Place}
 use Rattle.agent_core.specs.History.{place, past}

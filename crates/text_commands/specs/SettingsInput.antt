@@ -1,6 +1,6 @@
 -- Settings that are read of an input.
 use Rattle.std.specs.Prelude.{◌≡◌, ℕ, List, Option, Some, Ok, Err}
-use Rattle.agent_config.specs.declared.config.Config.{Config}
+use Rattle.agent_settings.specs.declared.config.Config.{Config}
 use Rattle.agent_config.specs.Settings.{settings_in}
 use Rattle.agent_status.specs.declared.status.Status.{Status}
 use Rattle.agent_status.specs.declared.status.Status.TheVariants.{BadConfig, OutOfMemory}

@@ -2,7 +2,7 @@
 
 ghost use Rattle.std.specs.Prelude.{◌≡◌, ◌≢◌, ◌≤◌, ◌⊎◌, List, ℕ, Ok, Some, length, IfOk, IfErr};
 ghost use Rattle.wire_core.specs.Counts.{Rose};
-ghost use Rattle.agent_config.specs.declared.config.Config.{Config};
+ghost use Rattle.agent_settings.specs.declared.config.Config.{Config};
 ghost use Rattle.agent_config.specs.Settings.{settings_in};
 ghost use Rattle.transcript.specs.SettingsText.{settings_text};
 ghost use Rattle.text_commands.specs.Checks.{ChecksBy};
@@ -11,7 +11,7 @@ ghost use Rattle.text_commands.specs.WholeInput.{most_whole};
 
 use crate::settings_input::take_settings;
 use crate::work::write_text;
-use agent_config::Config;
+use agent_settings::Config;
 use agent_status::Status;
 use std::alloc::Global;
 use transcript::print_settings;

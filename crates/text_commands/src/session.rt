@@ -4,8 +4,8 @@ ghost use Rattle.std.specs.Prelude.{◌≡◌, ◌≤◌, ◌++◌, ℕ, List, N
 ghost use Rattle.std.specs.List.{flat_map};
 ghost use Rattle.wire_core.specs.Counts.{Rose};
 ghost use Rattle.wire_core.specs.Sink.{Appends, AppendsPrefix};
-ghost use Rattle.agent_config.specs.declared.config.Config.{Config};
-ghost use Rattle.agent_config.specs.Config.{InLimits, find_address};
+ghost use Rattle.agent_settings.specs.declared.config.Config.{Config};
+ghost use Rattle.agent_settings.specs.Config.{InLimits, find_address};
 ghost use Rattle.agent_core.specs.Places.{Place};
 ghost use Rattle.agent_core.specs.History.{place};
 ghost use Rattle.transcript.specs.Text.{output_line, is_reply as reply_test, is_send as send_test, is_drop as drop_test};
@@ -13,8 +13,9 @@ ghost use Rattle.transcript.specs.Run.{CanFollow, Stage, end_text, event_at, fir
 ghost use Rattle.transcript.specs.declared.line.Line.TheVariants as line;
 ghost use Rattle.text_commands.specs.Session.{Follows, IsAt, IsDone, IsFailure, RunsAt, RunsOn, begun, counted};
 
-use agent_config::{Client, Config};
-use agent_core::{Core, Input, Output};
+use agent_core::Core;
+use agent_events::{Input, Output};
+use agent_settings::{Client, Config};
 use agent_status::Status;
 use std::alloc::Global;
 use std::hash::RandomState;
@@ -304,6 +305,7 @@ impl Session {
                 self.begin(alloc)?;
                 self.run(alloc, number, moment, inputs.as_slice(), sink)
             }
+            Line::Control { .. } => self.begin(alloc),
         }
     }
 

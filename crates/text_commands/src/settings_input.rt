@@ -2,12 +2,13 @@
 
 ghost use Rattle.std.specs.Prelude.{◌≡◌, Ok, Err, IfOk, IfErr};
 ghost use Rattle.wire_core.specs.Counts.{Rose};
-ghost use Rattle.agent_config.specs.Config.{InLimits};
+ghost use Rattle.agent_settings.specs.Config.{InLimits};
 ghost use Rattle.agent_config.specs.Settings.{settings_in};
 ghost use Rattle.text_commands.specs.SettingsInput.{ReadsNot, SettingsNot, SettingsTaken};
 
 use crate::whole_input::take_whole;
-use agent_config::{Config, ConfigFault};
+use agent_config::ConfigFault;
+use agent_settings::Config;
 use agent_status::Status;
 use std::alloc::Global;
 use wire_core::Source;

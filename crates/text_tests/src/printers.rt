@@ -1,10 +1,13 @@
 //! Lines that are printed, shown and generated.
 
-use agent_core::Output;
+use agent_events::Output;
 use radius_packet::Reason;
 use std::alloc::Global;
 use std::test::Fail;
-use transcript::{GenerateFault, Generator, ShowFault, generate, print, print_end, show_line};
+use transcript::{
+    GenerateFault, Generator, ShowFault, generate, print, print_control, print_drop, print_end,
+    print_end_with_controls, show_line,
+};
 use wire_core::{MemorySink, NoMemory, Octets};
 
 /// Whether this line was made.
@@ -27,6 +30,17 @@ fn prints_drop(alloc: Global) -> bool {
 /// Whether the last line is printed.
 fn prints_end(alloc: Global) -> bool {
     is_line(&print_end(alloc, 2, 1, 0), "end 2 1 0\n")
+}
+
+/// Whether the lines of control packets are printed.
+fn prints_controls(alloc: Global) -> bool {
+    is_line(
+        &print_control(alloc, 7, 0xc0a8_0110, 3799, b"\x29\x00"),
+        "7 control 192.168.1.16 3799 2900\n",
+    ) && is_line(
+        &print_drop(alloc, 7, 26, "AbortOpen"),
+        "7 drop 26 AbortOpen\n",
+    ) && is_line(&print_end_with_controls(alloc, 4, 3, 2, 1), "end 4 3 2 1\n")
 }
 
 /// Whether octets are shown, and a line that has none isn't.
@@ -75,6 +89,7 @@ fn writes_part(alloc: Global, sink: &mut MemorySink) -> bool {
 fn printed_lines(rt: HostRuntime) -> Result<(), Fail> {
     assert!(rt; prints_drop(rt.alloc()));
     assert!(rt; prints_end(rt.alloc()));
+    assert!(rt; prints_controls(rt.alloc()));
     assert!(rt; shows(rt.alloc())?);
     Ok(())
 }

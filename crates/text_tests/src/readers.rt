@@ -92,10 +92,64 @@ fn cuts_lines(alloc: Global) -> Result<bool, NoMemory> {
     )
 }
 
+/// Settings and a control line.
+const AGENT: &str = "agent a b c 192.0.2.1 0 1000 1 2 6000";
+
+const CONTROL: &str = "7 control 192.168.1.16 3799 2900";
+
+const CONTROL_TEXT: &[u8] = b"\
+agent a b c 192.0.2.1 0 1000 1 2 6000
+7 control 192.168.1.16 3799 2900
+";
+
+/// Whether the control line is read as the second one.
+fn is_control(line: &Result<Line, LineFault>) -> bool {
+    match line {
+        Ok(
+            Line::Control {
+                number,
+                moment,
+                address,
+                port,
+                octets,
+            },
+        ) => {
+            (*number, *moment, *address, *port) == (2, 7, 0xc0a8_0110, 3799)
+                && octets.as_slice() == b"\x29\x00".as_slice()
+        }
+        _ => false,
+    }
+}
+
+/// Whether a reader with control takes a control line, and one without control refuses it.
+fn takes_control(alloc: Global) -> Result<bool, NoMemory> {
+    let refused = LineFault::Bad { line: 2, reason: 2 };
+    let mut reader = LineReader::with_control(alloc)?;
+    let mut plain = LineReader::new(alloc)?;
+    Ok(
+        is_read(&reader.take(AGENT.as_bytes()), "0")
+            && is_control(&reader.take(CONTROL.as_bytes()))
+            && is_read(&plain.take(AGENT.as_bytes()), "0")
+            && plain.take(CONTROL.as_bytes()).err() == Some(refused),
+    )
+}
+
+/// Whether a source gives a control line.
+fn gives_control(alloc: Global) -> Result<bool, LineFault> {
+    let mut source = MemorySource::new(alloc, CONTROL_TEXT, 7, &[])?;
+    let mut lines = Lines::with_control(alloc, &mut source)?;
+    let first = lines.next_line()?.is_some();
+    let second = lines.next_line()?;
+    lines.into_source();
+    Ok(first && second.is_some_and(|line| is_control(&Ok(line))))
+}
+
 #[test]
 fn lines_of_a_source(rt: HostRuntime) -> Result<(), Fail> {
     assert!(rt; gives_lines(rt.alloc())?);
     assert!(rt; gives_fault(rt.alloc())?);
     assert!(rt; cuts_lines(rt.alloc())?);
+    assert!(rt; takes_control(rt.alloc())?);
+    assert!(rt; gives_control(rt.alloc())?);
     Ok(())
 }

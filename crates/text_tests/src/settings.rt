@@ -1,9 +1,8 @@
 //! Settings as values.
 
 use crate::printers::is_line;
-use agent_config::{
-    Client, Clients, Config, ConfigFault, is_client_in_limits, is_in_limits, read, read_address,
-};
+use agent_config::{ConfigFault, clients_from, read, read_address};
+use agent_settings::{Client, Clients, Config, is_client_in_limits, is_in_limits};
 use std::alloc::Global;
 use std::test::Fail;
 use transcript::print_settings;
@@ -70,7 +69,7 @@ fn has_room(clients: &mut Vec<Client>, client: &Client) -> bool {
 fn is_second_refused(alloc: Global, clients: Vec<Client>) -> bool {
     clients.len() <= 2
         && matches!(
-            Clients::from_vec(alloc, clients),
+            clients_from(alloc, clients),
             Err(ConfigFault::TwiceAddress { client: 2 })
         )
 }

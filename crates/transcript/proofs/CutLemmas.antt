@@ -4,19 +4,20 @@ use Rattle.std.specs.Prelude.{nat_lt}
 use Rattle.std.specs.List.{list_any}
 use Rattle.std.proofs.lemmas.List.{length-append}
 use Rattle.wire_core.specs.Counts.{one_more}
-use Rattle.agent_config.specs.declared.client.Client.{Client}
-use Rattle.agent_config.specs.declared.config.Config.{Config}
-use Rattle.agent_core.specs.declared.events.Input.{Input}
+use Rattle.agent_settings.specs.declared.client.Client.{Client}
+use Rattle.agent_settings.specs.declared.config.Config.{Config}
+use Rattle.agent_events.specs.declared.events.Input.{Input}
 use Rattle.agent_core.specs.Places.{Place}
 use Rattle.agent_core.specs.History.{place}
 use Rattle.transcript.specs.Cuts.{LinkLinesCanBeCut, inputs_outputs, line_outputs, link_line, outputs_of_lines}
 use Rattle.transcript.specs.Grammar.{IsHex, IsNumber, SaysWords}
 use Rattle.transcript.specs.Inputs.{inputs_of, link_inputs}
 use Rattle.transcript.specs.Kinds.{kind_of}
-use Rattle.transcript.specs.Lines.{client_of, event_of, settings_of}
-use Rattle.transcript.specs.Reading.{At, Said, Step, agent_step, client_step, event_step, kind_step, may_stand, read_from, read_line, said_on, start, words_step}
+use Rattle.transcript.specs.Lines.{client_of, control_of, event_of, settings_of}
+use Rattle.transcript.specs.Reading.{At, Said, Step, agent_step, beginning, client_step, control_step, event_step, kind_step, may_stand, read_from, read_line, said_on, words_step}
 use Rattle.transcript.specs.Run.{Running, Settings, Stage, event_at, first, follow, places_after, stage_after}
 use Rattle.transcript.specs.Words.{words_of}
+use Rattle.transcript.specs.declared.control.Control.{Control}
 use Rattle.transcript.specs.declared.happening.Happening.{Happening}
 use Rattle.transcript.specs.declared.happening.Happening.TheVariants as happening
 use Rattle.transcript.specs.declared.kind.Kind.{Kind}
@@ -112,6 +113,21 @@ event-like n k moment inputs = record { follows = follows; outputs = outputs }
     outputs (Settings (Some config)) = refl
     outputs (Running config ps) = refl
 
+control-like : (n k moment address port : ℕ) (octets : List ℕ)
+    → SaysLike (line.Control n moment address port octets) (line.Control k moment address port octets)
+control-like n k moment address port octets = record { follows = follows; outputs = outputs }
+  where
+    follows : (stage : Stage)
+        → follow stage (line.Control k moment address port octets) ≡ follow stage (line.Control n moment address port octets)
+    follows (Settings None) = refl
+    follows (Settings (Some config)) = refl
+    follows (Running config ps) = refl
+
+    outputs : (stage : Stage)
+        → line_outputs stage (line.Control k moment address port octets) ≡ line_outputs stage (line.Control n moment address port octets)
+    outputs (Settings told) = refl
+    outputs (Running config ps) = refl
+
 abbrev StepsLike : Step → Step → Type 0
 StepsLike (Ok step) (Ok other) = SaysLike step.0 other.0 × IsLike step.1 other.1
 StepsLike (Ok step) (Err reason) = ⊥
@@ -142,12 +158,18 @@ kind-like at n (kind.Event named) words = by (event_of named words)
     by : (read : Option (ℕ × Happening)) → StepsLike (event_step at read) (event_step (at_lines at n) read)
     by None = tt
     by (Some told) = (event-like (one_more at.lines) (one_more n) told.0 _, (one_more n, refl))
+kind-like at n kind.Control words = by (control_of words)
+  where
+    by : (read : Option Control) → StepsLike (control_step at read) (control_step (at_lines at n) read)
+    by None = tt
+    by (Some told) =
+        (control-like (one_more at.lines) (one_more n) told.moment told.address told.port told.octets, (one_more n, refl))
 
 words-like : (at : At) (n : ℕ) (found : Option Kind) (words : List (List ℕ))
     → StepsLike (words_step at found words) (words_step (at_lines at n) found words)
 words-like at n None words = tt
 words-like at n (Some found) words =
-    choice-like (may_stand at.section (length at.addresses) found) _ _ _ _ (kind-like at n found words) tt
+    choice-like (may_stand at.controls at.section (length at.addresses) found) _ _ _ _ (kind-like at n found words) tt
 
 line-like : (at : At) (n : ℕ) (octets : List ℕ) → StepsLike (read_line at octets) (read_line (at_lines at n) octets)
 line-like at n octets =
@@ -213,7 +235,7 @@ said_with at m octets others = said_on at (Ok (said_there at m octets, next_ther
 
 -- a place behind these octets
 abbrev at_stream : At → List ℕ → ℕ → At
-at_stream at stream n = record { section = Events; addresses = at.addresses; stream = stream; lines = n }
+at_stream at stream n = record { controls = at.controls; section = Events; addresses = at.addresses; stream = stream; lines = n }
 
 -- it isn't too long, and the settings are over
 record Stands (at : At) (octets : List ℕ) : Type 0 where
@@ -232,6 +254,7 @@ module _ (moment : List ℕ) (m : ℕ) (numbered : IsNumber 18446744073709551615
   further-by at words hex (line.Agent number config) next same says = absurd cc (sym same ∙ says.is.spelled)
   further-by at words hex (line.Client number client) next same says = absurd cc (sym same ∙ says.is.spelled)
   further-by at words hex (line.Event number moment inputs) next same says = says.further
+  further-by at words hex (line.Control number moment address port octets) next same says = says.further
 
   stands-by : (at : At) (hex octets : List ℕ) (step : Line × At) → IsHex hex octets → read_line at (link_line moment hex) ≡ Ok step
       → Stands at (link_line moment hex)
@@ -321,6 +344,6 @@ module _ (moment : List ℕ) (m : ℕ) (numbered : IsNumber 18446744073709551615
             }
 
 pub link-lines-cut : LinkLinesCanBeCut
-link-lines-cut before after moment a b x y m numbered is-a is-b some-x some-y sound =
-    let same = cut-from moment m numbered a b x y is-a is-b some-x some-y start before after sound in
+link-lines-cut controls before after moment a b x y m numbered is-a is-b some-x some-y sound =
+    let same = cut-from moment m numbered a b x y is-a is-b some-x some-y (beginning controls) before after sound in
     record { sound = same.sound; stage = same.stage first; outputs = same.outputs first }

@@ -5,10 +5,10 @@ use Rattle.std.proofs.lemmas.Bool.{cond-false, ne_eqb}
 use Rattle.std.proofs.lemmas.List.{length-map, map_push}
 use Rattle.std.proofs.lemmas.List.Elements.{All-head, All-tail}
 use Rattle.wire_core.specs.Counts.{one_more}
-use Rattle.agent_config.specs.declared.client.Client.{Client}
-use Rattle.agent_config.specs.declared.config.Config.{Config}
-use Rattle.agent_config.specs.Config.{ClientKeepsLimits, InLimits}
-use Rattle.agent_core.specs.declared.events.Input.{Input}
+use Rattle.agent_settings.specs.declared.client.Client.{Client}
+use Rattle.agent_settings.specs.declared.config.Config.{Config}
+use Rattle.agent_settings.specs.Config.{ClientKeepsLimits, InLimits}
+use Rattle.agent_events.specs.declared.events.Input.{Input}
 use Rattle.transcript.specs.Grammar.{Lacks, SaysClient, SaysWords}
 use Rattle.transcript.specs.Reading.{At, read_line}
 use Rattle.transcript.specs.Run.{Agrees, CanFollow, Running, Settings, Stage, follow}
@@ -64,6 +64,12 @@ event-goes at next (Settings None) number moment inputs agrees further events = 
 event-goes at next (Settings (Some config)) number moment inputs agrees further events = (agrees.2, events)
 event-goes at next (Running config ps) number moment inputs agrees further events = (tt, events)
 
+control-goes : (at next : At) (stage : Stage) (number moment address port : ℕ) (octets : List ℕ) → Agrees at stage
+    → at.section ≢ section.Start → next.section ≡ section.Events → Goes stage (line.Control number moment address port octets) next
+control-goes at next (Settings None) number moment address port octets agrees further events = absurd (further agrees.0)
+control-goes at next (Settings (Some config)) number moment address port octets agrees further events = (agrees.2, events)
+control-goes at next (Running config ps) number moment address port octets agrees further events = (tt, events)
+
 -- ---- any line
 
 says-follows : ClientKeepsLimits → (at : At) (stage : Stage) (words : List (List ℕ)) (said : Line) (next : At) → Agrees at stage
@@ -76,6 +82,8 @@ says-follows law at stage words (line.Client number client) next agrees says =
     (client-goes law at stage words number client next agrees says)
 says-follows law at stage words (line.Event number moment inputs) next agrees says =
     event-goes at next stage number moment inputs agrees says.further (ap (λ (n : At). n.section) says.goes_on)
+says-follows law at stage words (line.Control number moment address port octets) next agrees says =
+    control-goes at next stage number moment address port octets agrees says.further (ap (λ (n : At). n.section) says.goes_on)
 
 pub line-follows : ClientKeepsLimits → (at : At) (stage : Stage) (octets : List ℕ) (said : Line) (next : At) → Agrees at stage
     → read_line at octets ≡ Ok (said, next) → CanFollow stage said × Agrees next (follow stage said)

@@ -13,8 +13,8 @@ use Rattle.hex.proofs.HexLemmas.{decode_of-encode_lower, length-encode_with}
 use Rattle.radius_packet.specs.Packet.{packet_text}
 use Rattle.radius_packet.specs.declared.reasons.Via.TheVariants.{Auth}
 use Rattle.diameter_message.specs.Message.{header_text, message_text}
-use Rattle.agent_config.specs.Config.{are_settings_in_limits, is_client_in_limits}
-use Rattle.agent_core.specs.declared.events.Input.TheVariants as input
+use Rattle.agent_settings.specs.Config.{are_settings_in_limits, is_client_in_limits}
+use Rattle.agent_events.specs.declared.events.Input.TheVariants as input
 use Rattle.transcript.specs.Grammar.{IsDatagram, IsHappening, IsHex, Lacks}
 use Rattle.transcript.specs.Inputs.{inputs_of}
 use Rattle.transcript.specs.Generating.{logins_from}
@@ -149,7 +149,7 @@ logins-are (suc count) i r few =
 
 -- behind the settings and the one client, at the fourth line
 abbrev behind : At
-behind = record { section = Events; addresses = 167772161 ∷ []; stream = []; lines = 3 }
+behind = record { controls = false; section = Events; addresses = 167772161 ∷ []; stream = []; lines = 3 }
 
 opening-goes : (more : List (List ℕ)) → (read_from start (opening_lines ++ more)).stop ≡ (read_from behind more).stop
 unfolding number read_number read_octet read_ipv4 are_settings_in_limits decode_pairs is_client_in_limits

@@ -1,13 +1,16 @@
--- The words of an event line: what is read of them is what they say.
-use Rattle.std.proofs.Common.{◌≡◌, ℕ, List, [], ◌∷◌, length, codes, Some, refl, sym, ap, subst, ◌∙◌, lit≤, arith}
+-- The words of an event line and of a control line: what is read of them is what they say.
+use Rattle.std.proofs.Common.{◌≡◌, ℕ, true, List, [], ◌∷◌, length, codes, Some, refl, sym, ap, subst, ◌∙◌, lit≤, arith}
+use Rattle.std.proofs.lemmas.Bool.{and_parts}
 use Rattle.std.proofs.lemmas.Option.{same_Some}
+use Rattle.std.proofs.lemmas.Slice.Eq.{bytes_eq-Decides}
 use Rattle.agent_config.specs.Values.{address_in}
-use Rattle.agent_core.specs.declared.events.Input.TheVariants as input
-use Rattle.transcript.specs.Grammar.{IsEvent, IsHappening}
-use Rattle.transcript.specs.Kinds.{kind_of, words_behind}
-use Rattle.transcript.specs.Lines.{event_of, happening_of}
+use Rattle.agent_events.specs.declared.events.Input.TheVariants as input
+use Rattle.transcript.specs.Grammar.{IsControl, IsEvent, IsHappening}
+use Rattle.transcript.specs.Kinds.{is_control, kind_of, words_behind}
+use Rattle.transcript.specs.Lines.{control_of, event_of, happening_of}
 use Rattle.transcript.specs.Text.{via_name}
 use Rattle.transcript.specs.Words.{hex_word, number_word}
+use Rattle.transcript.specs.declared.control.Control.{Control}
 use Rattle.transcript.specs.declared.happening.Happening.{Happening}
 use Rattle.transcript.specs.declared.happening.Happening.TheVariants as happening
 use Rattle.transcript.specs.declared.kind.EventName.{EventName}
@@ -139,3 +142,38 @@ event-read words moment told w =
           ap (event_of t.name) spelled
           ∙ rw (number-read 18446744073709551615 w.word moment (lit≤ tt) w.is_moment, t.is_told) refl;
     }
+
+-- ---- a control line
+
+pub control-spelled : (words : List (List ℕ)) (told : Control) → is_control words ≡ true → control_of words ≡ Some told
+    → IsControl words told
+control-spelled (moment ∷ name ∷ address ∷ port ∷ hex ∷ []) told is e =
+    let (m, is_m, e1) = bind-some (number_word 18446744073709551615 moment) _ told e in
+    let (a, is_a, e2) = bind-some (address_in address) _ told e1 in
+    let (p, is_p, e3) = bind-some (number_word 65535 port) _ told e2 in
+    let (o, is_o, e4) = bind-some (hex_word hex) _ told e3 in
+    subst (IsControl (moment ∷ name ∷ address ∷ port ∷ hex ∷ [])) (same_Some _ told e4) (record {
+      moment = moment;
+      address = address;
+      port = port;
+      hex = hex;
+      spelled = ap (λ w. moment ∷ w ∷ address ∷ port ∷ hex ∷ []) ((bytes_eq-Decides name (codes "control")).0 (and_parts _ _ is).0);
+      is_moment = number-spelled 18446744073709551615 moment m (lit≤ tt) is_m;
+      is_address = address-spelled address a is_a;
+      is_port = number-spelled 65535 port p (lit≤ tt) is_p;
+      is_hex = hex-spelled hex o is_o;
+    })
+control-spelled words told is e = cc
+
+pub control-read : (words : List (List ℕ)) (told : Control) → IsControl words told → control_of words ≡ Some told
+control-read words told w =
+    ap control_of w.spelled
+    ∙ rw (
+      number-read 18446744073709551615 w.moment told.moment (lit≤ tt) w.is_moment,
+      address-read w.address told.address w.is_address,
+      number-read 65535 w.port told.port (lit≤ tt) w.is_port,
+      hex-read w.hex told.octets w.is_hex,
+    ) refl
+
+pub control-kind : (words : List (List ℕ)) (told : Control) → IsControl words told → kind_of words ≡ Some kind.Control
+control-kind words told w = ap kind_of w.spelled

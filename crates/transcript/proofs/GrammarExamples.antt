@@ -1,12 +1,12 @@
 -- Lines that have the grammar, each shown part by part.
-use Rattle.std.proofs.Common.{◌<◌, [], ◌∷◌, codes, refl, lit≤}
+use Rattle.std.proofs.Common.{◌<◌, true, false, [], ◌∷◌, codes, refl, lit≤}
 use Rattle.std.specs.Fmt.{digits}
 use Rattle.std.proofs.lemmas.List.Elements.{All-cons, All-nil}
 use Rattle.wire_core.specs.Numbers.{number}
 use Rattle.hex.specs.Hex.{encode_with}
 use Rattle.radius_packet.specs.declared.reasons.Via.TheVariants.{Auth}
-use Rattle.agent_core.specs.declared.events.Input.TheVariants.{Datagram, Ready}
-use Rattle.transcript.specs.Grammar.{IsEvent, IsLine, Lacks, Says}
+use Rattle.agent_events.specs.declared.events.Input.TheVariants.{Datagram, Ready}
+use Rattle.transcript.specs.Grammar.{IsControl, IsEvent, IsLine, Lacks, Says, SaysControl}
 use Rattle.transcript.specs.Reading.{At}
 use Rattle.transcript.specs.declared.happening.Happening.TheVariants.{Input, Link}
 use Rattle.transcript.specs.declared.line.Line.TheVariants as line
@@ -32,7 +32,7 @@ ready-event = record {
 }
 
 behind-agent : At
-behind-agent = record { section = Settings; addresses = []; stream = []; lines = 1 }
+behind-agent = record { controls = false; section = Settings; addresses = []; stream = []; lines = 1 }
 
 -- the second line of a transcript without clients
 ready-says : Says behind-agent (codes "0 ready") (line.Event 2 0 (Ready ∷ []))
@@ -85,3 +85,30 @@ auth-event = record {
     is_hex = refl;
   };
 }
+
+control-words : IsControl (codes "1000" ∷ codes "control" ∷ codes "192.168.1.16" ∷ codes "3799" ∷ codes "-" ∷ [])
+    (record { moment = 1000; address = 3232235792; port = 3799; octets = [] })
+unfolding digits number
+control-words = record {
+  moment = codes "1000";
+  address = codes "192.168.1.16";
+  port = codes "3799";
+  hex = codes "-";
+  spelled = refl;
+  is_moment = (refl, lit≤ tt);
+  is_address = (
+    192 ∷ 168 ∷ 1 ∷ 16 ∷ [],
+    record { a = 192; b = 168; c = 1; d = 16; fit = (lit≤ tt, lit≤ tt, lit≤ tt, lit≤ tt); value = refl; spelled = refl },
+    refl,
+  );
+  is_port = (refl, lit≤ tt);
+  is_hex = refl;
+}
+
+-- the second line of a transcript in which control lines may stand
+control-says : SaysControl (record behind-agent { controls = true })
+    (codes "1000" ∷ codes "control" ∷ codes "192.168.1.16" ∷ codes "3799" ∷ codes "-" ∷ []) 2
+    (record { moment = 1000; address = 3232235792; port = 3799; octets = [] })
+    (record behind-agent { controls = true; section = Events; lines = 2 })
+unfolding behind-agent
+control-says = record { may_stand = refl; further = λ e. cc; is = control-words; counts = refl; goes_on = refl }

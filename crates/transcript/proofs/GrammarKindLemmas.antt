@@ -5,7 +5,7 @@ use Rattle.std.proofs.lemmas.Option.{cond_some, same_Some}
 use Rattle.std.proofs.lemmas.Slice.Eq.{bytes_eq-Decides}
 use Rattle.radius_packet.specs.declared.reasons.Via.{Via}
 use Rattle.radius_packet.specs.declared.reasons.Via.TheVariants.{Auth, Acct}
-use Rattle.transcript.specs.Kinds.{begins_with, event_kind, event_name, kind_of, named_kind, words_behind}
+use Rattle.transcript.specs.Kinds.{begins_with, event_kind, event_name, is_control, kind_of, named_kind, words_behind}
 use Rattle.transcript.specs.Text.{via_name}
 use Rattle.transcript.specs.declared.kind.EventName.{EventName}
 use Rattle.transcript.specs.declared.kind.EventName.TheVariants.{Datagram, Link, Up, Ready, Down, Tick, Drain, Leave}
@@ -34,6 +34,7 @@ IsOfKind words kind.Agent =
     ((eqb (length words) 10 || eqb (length words) 11) ≡ true) × (begins_with (codes "agent") words ≡ true)
 IsOfKind words kind.Client = (eqb (length words) 9 ≡ true) × (begins_with (codes "client") words ≡ true)
 IsOfKind words (kind.Event name) = IsEventOf words name
+IsOfKind words kind.Control = is_control words ≡ true
 
 -- a word is one name, or a later one
 name-or : (word : List ℕ) (name found : EventName) (others : Option EventName) → (others ≡ Some found → word ≡ name_text found)
@@ -74,7 +75,8 @@ event-of (word ∷ second ∷ behind) found e = by (event_name second) refl e
         })
 
 pub kind-spelled : (words : List (List ℕ)) (found : Kind) → kind_of words ≡ Some found → IsOfKind words found
-kind-spelled words found e = by (count && begins_with (codes "agent") words) (nine && begins_with (codes "client") words) refl refl e
+kind-spelled words found e =
+    by (count && begins_with (codes "agent") words) (nine && begins_with (codes "client") words) (is_control words) refl refl refl e
   where
     count : Bool
     count = eqb (length words) 10 || eqb (length words) 11
@@ -82,11 +84,14 @@ kind-spelled words found e = by (count && begins_with (codes "agent") words) (ni
     nine : Bool
     nine = eqb (length words) 9
 
-    by : (a b : Bool) → (count && begins_with (codes "agent") words) ≡ a → (nine && begins_with (codes "client") words) ≡ b
-        → cond a (Some kind.Agent) (cond b (Some kind.Client) (event_kind words)) ≡ Some found → IsOfKind words found
-    by true b agent client e = subst (IsOfKind words) (same_Some kind.Agent found e) (and_parts count _ agent)
-    by false true agent client e = subst (IsOfKind words) (same_Some kind.Client found e) (and_parts nine _ client)
-    by false false agent client e = event-of words found e
+    by : (a b c : Bool) → (count && begins_with (codes "agent") words) ≡ a → (nine && begins_with (codes "client") words) ≡ b
+        → is_control words ≡ c
+        → cond a (Some kind.Agent) (cond b (Some kind.Client) (cond c (Some kind.Control) (event_kind words))) ≡ Some found
+        → IsOfKind words found
+    by true b c agent client control e = subst (IsOfKind words) (same_Some kind.Agent found e) (and_parts count _ agent)
+    by false true c agent client control e = subst (IsOfKind words) (same_Some kind.Client found e) (and_parts nine _ client)
+    by false false true agent client control e = subst (IsOfKind words) (same_Some kind.Control found e) control
+    by false false false agent client control e = event-of words found e
 
 pub datagram-kind : (via : Via) (word address port hex : List ℕ)
     → kind_of (word ∷ via_name via ∷ address ∷ port ∷ hex ∷ []) ≡ Some (kind.Event (Datagram via))

@@ -3,11 +3,11 @@ use Rattle.std.proofs.Common.{◌≡◌, ℕ, ◌≤◌, true, ◌||◌, eqb, in
 use Rattle.std.proofs.lemmas.Bool.{cond-true, or_cases}
 use Rattle.std.proofs.lemmas.Option.{cond_some, same_Some}
 use Rattle.std.proofs.lemmas.Slice.Eq.{bytes_eq-Decides}
-use Rattle.agent_config.specs.declared.client.Client.{Client}
-use Rattle.agent_config.specs.declared.config.Config.{Config}
-use Rattle.agent_config.specs.Config.{are_settings_in_limits, is_client_in_limits}
+use Rattle.agent_settings.specs.declared.client.Client.{Client}
+use Rattle.agent_settings.specs.declared.config.Config.{Config}
+use Rattle.agent_settings.specs.Config.{are_settings_in_limits, is_client_in_limits}
 use Rattle.agent_config.specs.Values.{address_in}
-use Rattle.agent_config.proofs.Limits.{in_limits-new}
+use Rattle.agent_settings.proofs.Limits.{in_limits-new}
 use Rattle.transcript.specs.Grammar.{IsAgent, IsClient, IsPatience}
 use Rattle.transcript.specs.Kinds.{begins_with, kind_of}
 use Rattle.transcript.specs.Lines.{client_of, first_of, in_limits, patience_of, settings_of}

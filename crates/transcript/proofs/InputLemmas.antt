@@ -1,14 +1,13 @@
 -- How a stream is cut into messages, piece by piece.
-use Rattle.std.proofs.Common.{◌≡◌, ℕ, ◌+◌, ◌-◌, ◌<◌, ◌≤◌, Bool, List, [], ◌∷◌, ◌++◌, length, map, drop, Option, Some, None, is_some, refl, sym, ap, ◌∙◌, subst, append_assoc, arith}
+use Rattle.std.proofs.Common.{◌≡◌, ℕ, ◌<◌, Bool, List, [], ◌∷◌, ◌++◌, length, map, drop, Option, Some, None, is_some, refl, sym, ap, ◌∙◌, subst, append_assoc, arith}
 use Rattle.std.proofs.lemmas.List.{append-nil, drop_at, length-append}
 use Rattle.diameter_message.specs.declared.fault.FrameFault.{FrameFault}
-use Rattle.diameter_message.specs.declared.next.Next.{Next}
 use Rattle.diameter_message.specs.declared.next.Next.TheVariants as next
-use Rattle.diameter_message.specs.Framing.{FramerParts, IsNext, StandsFor, given_with, messages_from, messages_of, next_of, rest_of, stream_fault}
+use Rattle.diameter_message.specs.Framing.{FramerParts, IsNext, StandsFor, messages_from, messages_of, next_of, rest_of, stream_fault}
 use Rattle.diameter_message.specs.Stream.{Stream, frame_fault}
 use Rattle.diameter_message.proofs.StreamLemmas.{Stream-of, next_in-message}
-use Rattle.agent_core.specs.declared.events.Input.{Input}
-use Rattle.agent_core.specs.declared.events.Input.TheVariants.{Message}
+use Rattle.agent_events.specs.declared.events.Input.{Input}
+use Rattle.agent_events.specs.declared.events.Input.TheVariants.{Message}
 use Rattle.transcript.specs.Inputs.{Gives, HasCut, link_inputs, new_fault}
 
 -- a message that is given makes what is left shorter

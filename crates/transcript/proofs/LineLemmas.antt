@@ -1,5 +1,5 @@
 -- The lines of a text, from its octets.
-use Rattle.std.proofs.Common.{◌≡◌, ℕ, Bool, true, false, ◌||◌, eqb, List, [], ◌∷◌, ◌++◌, refl, sym, ap, ◌∙◌}
+use Rattle.std.proofs.Common.{◌≡◌, ℕ, Bool, true, false, ◌||◌, eqb, List, [], ◌∷◌, ◌++◌, refl, ap, ◌∙◌}
 use Rattle.transcript.specs.Words.{in_front, lines_of}
 use Rattle.transcript.specs.Streams.{IsUnended}
 

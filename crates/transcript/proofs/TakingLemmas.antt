@@ -1,13 +1,13 @@
 -- What the octets that were taken say of the next line.
-use Rattle.std.proofs.Common.{◌≡◌, ℕ, ◌+◌, ◌<◌, ◌≤◌, Bool, true, false, List, [], ◌∷◌, ◌++◌, length, Option, Some, None, Result, Ok, Err, refl, sym, ap, ◌∙◌, append_assoc, subst, arith}
+use Rattle.std.proofs.Common.{◌≡◌, ℕ, ◌+◌, ◌<◌, Bool, true, false, List, [], ◌∷◌, ◌++◌, length, Option, Some, None, Result, Ok, Err, refl, sym, ap, ◌∙◌, append_assoc, subst, arith}
 use Rattle.std.proofs.lemmas.List.{append-nil, length-append}
 use Rattle.wire_core.specs.Counts.{Counts}
-use Rattle.wire_core.specs.Source.{Consumes, IsAtEnd}
+use Rattle.wire_core.specs.Source.{Consumes}
 use Rattle.wire_core.proofs.SourceLaws.{Consumes-append, Consumes-end, Consumes-told}
 use Rattle.transcript.specs.Positions.{TakesBad, TakesSome, TakesStep, TooLong}
 use Rattle.transcript.specs.Reading.{At, Step, read_line}
 use Rattle.transcript.specs.Streams.{Cutting, IsUnended, TakesNone, rest_of}
-use Rattle.transcript.specs.Taking.{Answers, FirstIsBad, IsEnding, IsOfLine, ReadsNone}
+use Rattle.transcript.specs.Taking.{Answers, IsEnding, IsOfLine, ReadsNone}
 use Rattle.transcript.specs.Words.{lines_of}
 use Rattle.transcript.specs.declared.line.Line.{Line}
 use Rattle.transcript.specs.declared.line_fault.LineFault.{LineFault}

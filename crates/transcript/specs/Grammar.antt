@@ -7,14 +7,15 @@ use Rattle.wire_core.specs.Counts.{one_more}
 use Rattle.wire_core.specs.Numbers.{AreOctets, number}
 use Rattle.hex.specs.Hex.{encode_lower}
 use Rattle.radius_packet.specs.declared.reasons.Via.{Via}
-use Rattle.agent_config.specs.declared.client.Client.{Client}
-use Rattle.agent_config.specs.declared.config.Config.{Config}
-use Rattle.agent_config.specs.Config.{ClientInLimits, InLimits}
-use Rattle.agent_core.specs.declared.events.Input.{Input}
-use Rattle.agent_core.specs.declared.events.Input.TheVariants as input
+use Rattle.agent_settings.specs.declared.client.Client.{Client}
+use Rattle.agent_settings.specs.declared.config.Config.{Config}
+use Rattle.agent_settings.specs.Config.{ClientInLimits, InLimits}
+use Rattle.agent_events.specs.declared.events.Input.{Input}
+use Rattle.agent_events.specs.declared.events.Input.TheVariants as input
 use Rattle.transcript.specs.Text.{via_name}
 use Rattle.transcript.specs.Inputs.{inputs_of, stream_after}
 use Rattle.transcript.specs.Reading.{At, read_line}
+use Rattle.transcript.specs.declared.control.Control.{Control}
 use Rattle.transcript.specs.declared.happening.Happening.{Happening}
 use Rattle.transcript.specs.declared.happening.Happening.TheVariants as happening
 use Rattle.transcript.specs.declared.line.Line.{Line}
@@ -136,6 +137,18 @@ pub record IsEvent (words : List (List ℕ)) (moment : ℕ) (told : Happening) :
   pub is_moment : IsNumber 18446744073709551615 word moment
   pub is_told : IsHappening behind told
 
+-- MOMENT control ADDRESS PORT HEX
+pub record IsControl (words : List (List ℕ)) (told : Control) : Type 0 where
+  pub moment : List ℕ
+  pub address : List ℕ
+  pub port : List ℕ
+  pub hex : List ℕ
+  pub spelled : words ≡ moment ∷ codes "control" ∷ address ∷ port ∷ hex ∷ []
+  pub is_moment : IsNumber 18446744073709551615 moment told.moment
+  pub is_address : IsAddress address told.address
+  pub is_port : IsNumber 65535 port told.port
+  pub is_hex : IsHex hex told.octets
+
 -- ---- a line at its place
 
 -- the agent line comes first
@@ -154,7 +167,7 @@ pub record SaysClient (at : At) (words : List (List ℕ)) (number : ℕ) (client
   pub counts : number ≡ one_more at.lines
   pub goes_on : next ≡ (record at { addresses = at.addresses ++ client.address ∷ []; lines = one_more at.lines })
 
--- all further lines are events
+-- all further lines are events,
 pub record SaysEvent (at : At) (words : List (List ℕ)) (number moment : ℕ) (inputs : List Input) (next : At) : Type 0 where
   pub further : at.section ≢ Start
   pub told : Happening
@@ -163,10 +176,20 @@ pub record SaysEvent (at : At) (words : List (List ℕ)) (number moment : ℕ) (
   pub gives : inputs ≡ inputs_of at.stream told
   pub goes_on : next ≡ (record at { section = Events; stream = stream_after at.stream told; lines = one_more at.lines })
 
+-- or control lines where these may stand; the stream of the link goes on
+pub record SaysControl (at : At) (words : List (List ℕ)) (number : ℕ) (told : Control) (next : At) : Type 0 where
+  pub may_stand : at.controls ≡ true
+  pub further : at.section ≢ Start
+  pub is : IsControl words told
+  pub counts : number ≡ one_more at.lines
+  pub goes_on : next ≡ (record at { section = Events; lines = one_more at.lines })
+
 abbrev pub SaysWords : At → List (List ℕ) → Line → At → Type 0
 SaysWords at words (line.Agent number config) next = SaysAgent at words number config next
 SaysWords at words (line.Client number client) next = SaysClient at words number client next
 SaysWords at words (line.Event number moment inputs) next = SaysEvent at words number moment inputs next
+SaysWords at words (line.Control number moment address port octets) next =
+    SaysControl at words number (record { moment = moment; address = address; port = port; octets = octets }) next
 
 -- the words of a line of at most 140,000 octets say this at its place, and the next line stands there
 pub record Says (at : At) (octets : List ℕ) (said : Line) (next : At) : Type 0 where

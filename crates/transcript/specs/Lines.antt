@@ -1,12 +1,13 @@
 -- What the words of a transcript's lines tell, each of its kind and within its limits (profile).
 use Rattle.std.specs.Prelude.{ℕ, List, [], ◌∷◌, codes, Option, Some, None, if◌then◌else◌}
 use Rattle.radius_packet.specs.declared.reasons.Via.{Via}
-use Rattle.agent_config.specs.declared.client.Client.{Client}
-use Rattle.agent_config.specs.declared.config.Config.{Config}
-use Rattle.agent_config.specs.Config.{are_settings_in_limits, is_client_in_limits}
+use Rattle.agent_settings.specs.declared.client.Client.{Client}
+use Rattle.agent_settings.specs.declared.config.Config.{Config}
+use Rattle.agent_settings.specs.Config.{are_settings_in_limits, is_client_in_limits}
 use Rattle.agent_config.specs.Values.{address_in}
-use Rattle.agent_core.specs.declared.events.Input.TheVariants as input
+use Rattle.agent_events.specs.declared.events.Input.TheVariants as input
 use Rattle.transcript.specs.Words.{◌>>=◌, number_word, hex_word, choice_word, addresses_word}
+use Rattle.transcript.specs.declared.control.Control.{Control}
 use Rattle.transcript.specs.declared.kind.EventName.{EventName}
 use Rattle.transcript.specs.declared.kind.EventName.TheVariants.{Datagram, Link, Up, Ready, Down, Tick, Drain, Leave}
 use Rattle.transcript.specs.declared.happening.Happening.{Happening}
@@ -119,3 +120,14 @@ event_of name (moment ∷ word ∷ words) = do
   told ← happening_of name words
   Some (moment, told)
 event_of name words = None
+
+-- ---- MOMENT control ADDRESS PORT HEX
+
+abbrev pub control_of : List (List ℕ) → Option Control
+control_of (moment ∷ word ∷ address ∷ port ∷ hex ∷ []) = do
+  moment ← number_word 18446744073709551615 moment
+  address ← address_in address
+  port ← number_word 65535 port
+  octets ← hex_word hex
+  Some (record { moment = moment; address = address; port = port; octets = octets })
+control_of words = None

@@ -2,7 +2,7 @@
 use Rattle.std.specs.Prelude.{◌≡◌, ℕ, ◌<◌, List, length, Option, Some, None, Result, Ok, Err, ⊤, OnOk}
 use Rattle.wire_core.specs.Counts.{one_more}
 use Rattle.wire_core.specs.declared.memory.NoMemory.{NoMemory}
-use Rattle.agent_core.specs.declared.events.Input.{Input}
+use Rattle.agent_events.specs.declared.events.Input.{Input}
 use Rattle.transcript.specs.Inputs.{HasCut, inputs_of, stream_after}
 use Rattle.transcript.specs.Reading.{At, Step, read_line}
 use Rattle.transcript.specs.declared.happening.Happening.{Happening}
@@ -22,6 +22,7 @@ fault_of number word.Bad = fault.Bad number 3
 fault_of number word.NoMemory = fault.NoMemory
 
 pub record StandsAt (p : Position) (at : At) : Type 0 where
+  pub controls : p.controls ≡ at.controls
   pub section : p.section ≡ at.section
   pub addresses : p.addresses.items ≡ at.addresses
   pub cut : HasCut p.link.framer p.link.is_broken at.stream
@@ -39,7 +40,7 @@ TakesStep (Err f) at step new = ⊥
 abbrev pub TellsInputs : Result (List Input) NoMemory → At → Happening → Position → Position → Type 0
 TellsInputs (Ok inputs) at told old new =
     (inputs ≡ inputs_of at.stream told) × HasCut new.link.framer new.link.is_broken (stream_after at.stream told)
-    × (new.section ≡ old.section) × (new.addresses ≡ old.addresses) × (new.lines ≡ old.lines)
+    × (new.controls ≡ old.controls) × (new.section ≡ old.section) × (new.addresses ≡ old.addresses) × (new.lines ≡ old.lines)
 TellsInputs (Err e) at told old new = ⊤
 
 -- nothing was refused, and the next line stands here

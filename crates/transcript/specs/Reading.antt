@@ -2,12 +2,13 @@
 use Rattle.std.specs.Prelude.{◌≡◌, ℕ, Bool, true, false, ◌==◌, nat_lt, List, [], ◌∷◌, ◌++◌, length, Option, Some, None, Result, Ok, Err, if◌then◌else◌}
 use Rattle.std.specs.List.{list_any}
 use Rattle.wire_core.specs.Counts.{one_more}
-use Rattle.agent_config.specs.declared.client.Client.{Client}
-use Rattle.agent_config.specs.declared.config.Config.{Config}
+use Rattle.agent_settings.specs.declared.client.Client.{Client}
+use Rattle.agent_settings.specs.declared.config.Config.{Config}
 use Rattle.transcript.specs.Words.{lines_of, words_of}
 use Rattle.transcript.specs.Kinds.{kind_of}
-use Rattle.transcript.specs.Lines.{settings_of, client_of, event_of}
+use Rattle.transcript.specs.Lines.{settings_of, client_of, event_of, control_of}
 use Rattle.transcript.specs.Inputs.{inputs_of, stream_after}
+use Rattle.transcript.specs.declared.control.Control.{Control}
 use Rattle.transcript.specs.declared.kind.Kind.{Kind}
 use Rattle.transcript.specs.declared.kind.Kind.TheVariants as kind
 use Rattle.transcript.specs.declared.happening.Happening.{Happening}
@@ -16,28 +17,40 @@ use Rattle.transcript.specs.declared.line.Line.TheVariants as line
 use Rattle.transcript.specs.declared.position.Section.{Section}
 use Rattle.transcript.specs.declared.position.Section.TheVariants.{Start, Settings, Events}
 
--- Where a line stands: behind which lines, which addresses the clients so far have, the octets of the `link` lines since
--- the last `up` or `ready` line, and how many lines came before.
+-- Where a line stands: whether control lines may stand in the transcript, behind which lines it stands, which addresses the
+-- clients so far have, the octets of the `link` lines since the last `up` or `ready` line, and how many lines came before.
 pub record At : Type 0 where
+  pub controls : Bool
   pub section : Section
   pub addresses : List ℕ
   pub stream : List ℕ
   pub lines : ℕ
 
-abbrev pub start : At
-start = record { section = Start; addresses = []; stream = []; lines = 0 }
+abbrev pub beginning : Bool → At
+beginning controls = record { controls = controls; section = Start; addresses = []; stream = []; lines = 0 }
 
--- the agent line comes first, client lines follow directly, at most 1,024, and all further lines are events
-abbrev pub may_stand : Section → ℕ → Kind → Bool
-may_stand Start clients kind.Agent = true
-may_stand Start clients kind.Client = false
-may_stand Start clients (kind.Event name) = false
-may_stand Settings clients kind.Agent = false
-may_stand Settings clients kind.Client = nat_lt clients 1024
-may_stand Settings clients (kind.Event name) = true
-may_stand Events clients kind.Agent = false
-may_stand Events clients kind.Client = false
-may_stand Events clients (kind.Event name) = true
+abbrev pub start : At
+start = beginning false
+
+-- of a transcript in which control lines may stand
+abbrev pub start_with_control : At
+start_with_control = beginning true
+
+-- the agent line comes first, client lines follow directly, at most 1,024, and all further lines are events, or control
+-- lines where these may stand
+abbrev pub may_stand : Bool → Section → ℕ → Kind → Bool
+may_stand controls Start clients kind.Agent = true
+may_stand controls Start clients kind.Client = false
+may_stand controls Start clients (kind.Event name) = false
+may_stand controls Start clients kind.Control = false
+may_stand controls Settings clients kind.Agent = false
+may_stand controls Settings clients kind.Client = nat_lt clients 1024
+may_stand controls Settings clients (kind.Event name) = true
+may_stand controls Settings clients kind.Control = controls
+may_stand controls Events clients kind.Agent = false
+may_stand controls Events clients kind.Client = false
+may_stand controls Events clients (kind.Event name) = true
+may_stand controls Events clients kind.Control = controls
 
 -- what a line says and where the next one stands, or the reason why it is bad
 abbrev pub Step : Type 0
@@ -67,16 +80,26 @@ event_step at (Some told) =
       record at { section = Events; stream = stream_after at.stream told.1; lines = one_more at.lines },
     )
 
+-- the stream of the link goes on
+abbrev pub control_step : At → Option Control → Step
+control_step at None = Err 3
+control_step at (Some told) =
+    Ok (
+      line.Control (one_more at.lines) told.moment told.address told.port told.octets,
+      record at { section = Events; lines = one_more at.lines },
+    )
+
 abbrev pub kind_step : At → Kind → List (List ℕ) → Step
 kind_step at kind.Agent words = agent_step at (settings_of words)
 kind_step at kind.Client words = client_step at (client_of words)
 kind_step at (kind.Event name) words = event_step at (event_of name words)
+kind_step at kind.Control words = control_step at (control_of words)
 
 -- 2: the count of words and the fixed words are those of no line that may stand there
 abbrev pub words_step : At → Option Kind → List (List ℕ) → Step
 words_step at None words = Err 2
 words_step at (Some found) words =
-    if may_stand at.section (length at.addresses) found then kind_step at found words else Err 2
+    if may_stand at.controls at.section (length at.addresses) found then kind_step at found words else Err 2
 
 -- 1: the line has more than 140,000 octets
 abbrev pub read_line : At → List ℕ → Step

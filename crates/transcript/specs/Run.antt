@@ -1,11 +1,10 @@
 -- What a transcript prints: its lines are followed one after another (profile).
 use Rattle.std.specs.Prelude.{◌≡◌, ℕ, ◌-◌, ◌^◌, ◌<◌, Bool, Ok, List, [], ◌∷◌, ◌++◌, length, map, min, count_by, sum_by, Option, Some, None, option_map, ⊤}
 use Rattle.std.specs.List.{flat_map}
-use Rattle.agent_config.specs.declared.client.Client.{Client}
-use Rattle.agent_config.specs.declared.config.Config.{Config}
-use Rattle.agent_config.specs.Config.{ClientInLimits, InLimits, find_address, with_client}
-use Rattle.agent_core.specs.declared.events.Input.{Input}
-use Rattle.agent_core.specs.declared.events.Output.{Output}
+use Rattle.agent_settings.specs.declared.config.Config.{Config}
+use Rattle.agent_settings.specs.Config.{ClientInLimits, InLimits, find_address, with_client}
+use Rattle.agent_events.specs.declared.events.Input.{Input}
+use Rattle.agent_events.specs.declared.events.Output.{Output}
 use Rattle.agent_core.specs.Places.{Event, Place}
 use Rattle.agent_core.specs.History.{place}
 use Rattle.transcript.specs.Text.{end_line, is_drop, is_reply, is_send, output_line}
@@ -37,23 +36,29 @@ inputs_text number config ps moment (x ∷ xs) =
     flat_map (output_line number) (place config ps (event_at moment x)).outputs
     ++ inputs_text number config (place config ps (event_at moment x) ∷ ps) moment xs
 
+-- a control line is no input of the agent, but a run begins with it too
 abbrev pub follow : Stage → Line → Stage
 follow (Settings told) (line.Agent number config) = Settings (Some config)
 follow (Settings told) (line.Client number client) = Settings (option_map (λ config. with_client config client) told)
 follow (Settings None) (line.Event number moment inputs) = Settings None
 follow (Settings (Some config)) (line.Event number moment inputs) = Running config (places_after config [] moment inputs)
+follow (Settings None) (line.Control number moment address port octets) = Settings None
+follow (Settings (Some config)) (line.Control number moment address port octets) = Running config []
 follow (Running config ps) (line.Agent number other) = Running config ps
 follow (Running config ps) (line.Client number client) = Running config ps
 follow (Running config ps) (line.Event number moment inputs) = Running config (places_after config ps moment inputs)
+follow (Running config ps) (line.Control number moment address port octets) = Running config ps
 
 abbrev pub printed_for : Stage → Line → List ℕ
 printed_for (Settings told) (line.Agent number config) = []
 printed_for (Settings told) (line.Client number client) = []
 printed_for (Settings None) (line.Event number moment inputs) = []
 printed_for (Settings (Some config)) (line.Event number moment inputs) = inputs_text number config [] moment inputs
+printed_for (Settings told) (line.Control number moment address port octets) = []
 printed_for (Running config ps) (line.Agent number other) = []
 printed_for (Running config ps) (line.Client number client) = []
 printed_for (Running config ps) (line.Event number moment inputs) = inputs_text number config ps moment inputs
+printed_for (Running config ps) (line.Control number moment address port octets) = []
 
 -- ---- whole transcripts
 
@@ -101,6 +106,8 @@ CanFollow (Settings (Some config)) (line.Client number client) =
     InLimits config × ClientInLimits client × (length config.clients < 1024) × (find_address client.address config.clients ≡ None)
 CanFollow (Settings None) (line.Event number moment inputs) = ⊤
 CanFollow (Settings (Some config)) (line.Event number moment inputs) = InLimits config
+CanFollow (Settings None) (line.Control number moment address port octets) = ⊤
+CanFollow (Settings (Some config)) (line.Control number moment address port octets) = InLimits config
 CanFollow (Running config ps) said = ⊤
 
 -- a line that was read can be followed, and the next one then too

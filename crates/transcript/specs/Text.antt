@@ -12,8 +12,8 @@ use Rattle.diameter_message.specs.declared.fault.FrameFault.{FrameFault}
 use Rattle.diameter_message.specs.declared.fault.FrameFault.TheVariants as frame
 use Rattle.peer_machine.specs.declared.LinkCause.{LinkCause}
 use Rattle.peer_machine.specs.declared.LinkCause.TheVariants as link
-use Rattle.agent_core.specs.declared.events.Output.{Output}
-use Rattle.agent_core.specs.declared.events.Output.TheVariants.{Reply, Send, Dropped, Closed}
+use Rattle.agent_events.specs.declared.events.Output.{Output}
+use Rattle.agent_events.specs.declared.events.Output.TheVariants.{Reply, Send, Dropped, Closed}
 
 -- ---- one line
 
@@ -91,9 +91,23 @@ line_text words = join_with_byte 32 words ++ 10 ∷ []
 abbrev pub output_line : ℕ → Output → List ℕ
 output_line line output = line_text (decimal line ∷ output_words output)
 
+-- the line of a drop, by its number and its name
+abbrev pub drop_line : ℕ → ℕ → List ℕ → List ℕ
+drop_line line number name = line_text (decimal line ∷ codes "drop" ∷ decimal number ∷ name ∷ [])
+
+-- the line of a packet that goes out to this address and port, beside the agent's outputs
+abbrev pub control_line : ℕ → ℕ → ℕ → List ℕ → List ℕ
+control_line line address port octets =
+    line_text (decimal line ∷ codes "control" ∷ address_text address ∷ decimal port ∷ hex_text octets ∷ [])
+
 -- the last line: how many lines of each kind there were
 abbrev pub end_line : ℕ → ℕ → ℕ → List ℕ
 end_line replies sends drops = line_text (codes "end" ∷ decimal replies ∷ decimal sends ∷ decimal drops ∷ [])
+
+-- the last line where control lines may have been printed too
+abbrev pub end_line_with_controls : ℕ → ℕ → ℕ → ℕ → List ℕ
+end_line_with_controls replies sends drops controls =
+    line_text (codes "end" ∷ decimal replies ∷ decimal sends ∷ decimal drops ∷ decimal controls ∷ [])
 
 -- ---- which outputs are counted
 

@@ -2,8 +2,8 @@
 use Rattle.std.specs.Prelude.{ℕ, List, map, Option}
 use Rattle.std.specs.Borrow.{Bor}
 use Rattle.std.specs.Option.{option_copied}
-use Rattle.agent_config.specs.declared.client.Client.{Client}
-use Rattle.agent_config.specs.declared.config.Config.{Config}
+use Rattle.agent_settings.specs.declared.client.Client.{Client}
+use Rattle.agent_settings.specs.declared.config.Config.{Config}
 use Rattle.transcript.specs.Lines.{client_by, settings_by}
 use Rattle.transcript.specs.declared.settings.AgentWords.{AgentWords}
 use Rattle.transcript.specs.declared.settings.ClientWords.{ClientWords}

@@ -20,7 +20,7 @@ const CLIENT_LINE: &str = "client gen 10.0.0.1 736563726574 gen.example example 
 const READY_LINE: &str = "0 ready";
 
 /// What a line says.
-#[derive(Clone, Copy, Debug, PartialEq, Eq)]
+#[derive(Clone, Copy)]
 enum Stage {
     Agent,
     Client,
@@ -36,7 +36,7 @@ enum Stage {
 
 /// Where a line stands: what it says, the number of its login, or of the first one where it comes before that, how
 /// many logins come after that one, and the number that is drawn for it.
-#[derive(Clone, Copy, Debug)]
+#[derive(Clone, Copy)]
 struct Position {
     stage: Stage,
     number: u32,
@@ -139,7 +139,7 @@ impl Position {
 
 /// The lines of a transcript, made as they are asked for: a client's logins, one every 20 milliseconds, some of whose
 /// requests come again before the answer or after it. Contracts see the lines that are still to come.
-#[derive(Debug, Drop)]
+#[derive(Drop)]
 pub struct Generator {
     alloc: Global,
     position: Option<Position>,

@@ -8,13 +8,13 @@ ghost use Rattle.transcript.specs.Views.{plain};
 use crate::kind::EventName;
 use crate::word_fault::WordFault;
 use crate::words::{read_address, read_hex, read_number, read_u16};
-use agent_core::Input;
+use agent_events::Input;
 use radius_packet::Via;
 use std::alloc::Global;
 use wire_core::Octets;
 
 /// What an event line tells by itself.
-#[derive(Debug, Drop)]
+#[derive(Drop)]
 pub(crate) enum Happening {
     Input(Input),
     /// Octets of the link: which messages they end, the lines before tell too.

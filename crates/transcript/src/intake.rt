@@ -17,7 +17,7 @@ const CHUNK: usize = 65_536;
 const MOST: u64 = 1_099_511_627_776;
 
 /// Why no more octets can be taken.
-#[derive(Clone, Copy, Debug, PartialEq, Eq)]
+#[derive(Clone, Copy)]
 pub(crate) enum TakeFault {
     /// The source failed.
     Read,
@@ -26,7 +26,7 @@ pub(crate) enum TakeFault {
 }
 
 /// Octets that were taken of a source and not passed on yet.
-#[derive(Debug, Drop)]
+#[derive(Drop)]
 pub(crate) struct Intake {
     chunk: Vec<u8>,
     start: usize,

@@ -7,7 +7,7 @@ ghost use Rattle.transcript.specs.Views.{plain};
 use radius_packet::Via;
 
 /// What an event line's second word names.
-#[derive(Clone, Copy, Debug, PartialEq, Eq)]
+#[derive(Clone, Copy)]
 pub(crate) enum EventName {
     Datagram(Via),
     Link,
@@ -20,11 +20,12 @@ pub(crate) enum EventName {
 }
 
 /// A kind of line.
-#[derive(Clone, Copy, Debug, PartialEq, Eq)]
+#[derive(Clone, Copy)]
 pub(crate) enum Kind {
     Agent,
     Client,
     Event(EventName),
+    Control,
 }
 
 fn event_name(word: &[u8]) -> Option<EventName>
@@ -85,6 +86,16 @@ fn event_kind(words: &[&[u8]]) -> Option<Kind>
     }
 }
 
+/// Whether the words are those of a control line.
+fn is_control(words: &[&[u8]]) -> bool
+    ensures { result ≡ kinds.is_control (plain words.now) }
+{
+    match words {
+        [_, name, rest @ ..] => *name == b"control".as_slice() && rest.len() == 3,
+        _ => false,
+    }
+}
+
 fn begins_with(name: &[u8], words: &[&[u8]]) -> bool
     ensures { result ≡ kinds.begins_with name.now (plain words.now) }
 {
@@ -103,6 +114,8 @@ pub(crate) fn kind_of(words: &[&[u8]]) -> Option<Kind>
         Some(Kind::Agent)
     } else if count == 9 && begins_with(b"client", words) {
         Some(Kind::Client)
+    } else if is_control(words) {
+        Some(Kind::Control)
     } else {
         event_kind(words)
     }

@@ -14,7 +14,7 @@ pub fn generated_lines_are_sound()
 pub fn lines_can_follow()
     ensures { LinesCanFollow }
 {
-    agent_config::client_keeps_limits();
+    agent_settings::client_keeps_limits();
 }
 
 /// The reader accepts exactly the lines of the grammar, and reads of each what it says.

@@ -1,6 +1,7 @@
 //! The text form of what comes in and what goes out: lines of words (profile).
 #![tactic(auto)]
 
+mod control;
 mod generate_fault;
 mod generator;
 mod happening;
@@ -30,7 +31,7 @@ pub use laws::{
 pub use line::{Inputs, Line};
 pub use line_fault::LineFault;
 pub use lines::Lines;
-pub use printing::{print, print_end};
+pub use printing::{print, print_control, print_drop, print_end, print_end_with_controls};
 pub use raw_lines::{RawFault, RawLine, RawLines};
 pub use reader::LineReader;
 pub use settings_printing::print_settings;

@@ -2,21 +2,21 @@
 
 ghost use Rattle.std.specs.Prelude.{◌≡◌, [], ◌∷◌, ◌++◌, length, IfOk, OnOk, OnErr};
 
-use agent_config::{Client, Config};
-use agent_core::Input;
+use agent_events::Input;
+use agent_settings::{Client, Config};
 use std::alloc::Global;
 use std::marker::Model;
-use wire_core::NoMemory;
+use wire_core::{NoMemory, Octets};
 
 /// The inputs of one event line, in order. Contracts see them as the list.
-#[derive(Debug, Drop)]
+#[derive(Drop)]
 pub struct Inputs {
     inputs: Vec<Input>,
 }
 
 impl Model for Inputs {
     ghost use Rattle.std.specs.Prelude.{List};
-    ghost use Rattle.agent_core.specs.declared.events.Input.{Input};
+    ghost use Rattle.agent_events.specs.declared.events.Input.{Input};
 
     ghost Value = { List Input };
 
@@ -67,7 +67,7 @@ impl Inputs {
 }
 
 /// A line of a transcript; `number` counts from 1.
-#[derive(Debug, Drop)]
+#[derive(Drop)]
 pub enum Line {
     /// The settings, still without clients.
     Agent {
@@ -84,5 +84,14 @@ pub enum Line {
         number: u64,
         moment: u64,
         inputs: Inputs,
+    },
+    /// A packet that comes at a moment, in milliseconds, from this address and port, for what speaks with access servers
+    /// beside the agent. Only a reader with control gives it.
+    Control {
+        number: u64,
+        moment: u64,
+        address: u32,
+        port: u16,
+        octets: Octets,
     },
 }

@@ -3,7 +3,7 @@
 ghost use Rattle.std.specs.Prelude.{◌≡◌, [], Ok, Err, Some, None, IfOk, IfErr, true, false};
 ghost use Rattle.wire_core.specs.Counts.{Counts};
 ghost use Rattle.transcript.specs.Positions.{IsReading};
-ghost use Rattle.transcript.specs.Reading.{At, start};
+ghost use Rattle.transcript.specs.Reading.{At, start, start_with_control};
 ghost use Rattle.transcript.specs.Streams.{rest_of};
 ghost use Rattle.transcript.specs.Taking.{Answers, IsOfLine};
 ghost use Rattle.transcript.specs.declared.line_fault.LineFault.{LineFault};
@@ -27,19 +27,38 @@ pub struct Lines<'a, S: Source> {
 }
 
 impl<'a, S: Source> Lines<'a, S> {
+    /// The lines that this reader gives of a source, of which nothing is taken yet.
+    fn read_by(
+        alloc: Global,
+        source: &'a mut S,
+        reader: LineReader,
+    ) -> Result<Lines<'a, S>, NoMemory>
+        ensures { IfOk result (λ lines. (lines.source.ghost_name ≡ source.entry.ghost_name) × (lines.source.now ≡ source.old)
+            × (lines.raw.held.octets ≡ []) × (lines.raw.held.passed ≡ 0) × (lines.reader ≡ reader) × (lines.is_ended ≡ false)) }
+    {
+        Ok(Lines {
+            source,
+            raw: RawLines::new(alloc)?,
+            reader,
+            is_ended: false,
+        })
+    }
+
     /// The lines of this source, of which nothing is taken yet.
     pub fn new(alloc: Global, source: &'a mut S) -> Result<Lines<'a, S>, NoMemory>
         ensures { IfOk result (λ lines. (lines.source.ghost_name ≡ source.entry.ghost_name) × (lines.source.now ≡ source.old)
             × (lines.raw.held.octets ≡ []) × (lines.raw.held.passed ≡ 0) × IsReading lines.reader start × (lines.is_ended ≡ false)) }
     {
-        let raw = RawLines::new(alloc)?;
-        let reader = LineReader::new(alloc)?;
-        Ok(Lines {
-            source,
-            raw,
-            reader,
-            is_ended: false,
-        })
+        Lines::read_by(alloc, source, LineReader::new(alloc)?)
+    }
+
+    /// The same, and control lines may stand among them.
+    pub fn with_control(alloc: Global, source: &'a mut S) -> Result<Lines<'a, S>, NoMemory>
+        ensures { IfOk result (λ lines. (lines.source.ghost_name ≡ source.entry.ghost_name) × (lines.source.now ≡ source.old)
+            × (lines.raw.held.octets ≡ []) × (lines.raw.held.passed ≡ 0) × IsReading lines.reader start_with_control
+            × (lines.is_ended ≡ false)) }
+    {
+        Lines::read_by(alloc, source, LineReader::with_control(alloc)?)
     }
 
     /// Why there is no next line.

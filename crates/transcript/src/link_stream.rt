@@ -5,7 +5,7 @@ ghost use Rattle.transcript.specs.Inputs.{Gives, HasCut, link_inputs, new_fault}
 ghost use Rattle.diameter_message.specs.Framing.{StandsFor};
 
 use crate::line::Inputs;
-use agent_core::Input;
+use agent_events::Input;
 use diameter_message::{FrameFault, Framer, Next};
 use std::alloc::Global;
 use wire_core::NoMemory;

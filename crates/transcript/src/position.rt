@@ -10,6 +10,7 @@ ghost use Rattle.transcript.specs.Positions.{StandsAt, TakesStep, TellsInputs, f
 ghost use Rattle.transcript.specs.Views.{plain};
 ghost use Rattle.transcript.specs.Words as word;
 
+use crate::control::{Control, read_control};
 use crate::happening::{Happening, read_event};
 use crate::kind::{EventName, Kind, kind_of};
 use crate::line::{Inputs, Line};
@@ -18,7 +19,7 @@ use crate::link_stream::LinkStream;
 use crate::settings::{read_client, read_settings};
 use crate::word_fault::WordFault;
 use crate::words::words_of;
-use agent_core::Input;
+use agent_events::Input;
 use std::alloc::Global;
 use wire_core::NoMemory;
 
@@ -29,19 +30,21 @@ const MOST_CLIENTS: usize = 1_024;
 const LONGEST_LINE: usize = 140_000;
 
 /// Which lines may stand next.
-#[derive(Clone, Copy, Debug, PartialEq, Eq)]
+#[derive(Clone, Copy)]
 pub(crate) enum Section {
     /// The agent line.
     Start,
-    /// Client lines, and then event lines.
+    /// Client lines, and then event lines or control lines.
     Settings,
-    /// Event lines.
+    /// Event lines or control lines.
     Events,
 }
 
 /// Where the next line stands.
 #[derive(Drop)]
 pub(crate) struct Position {
+    /// Whether control lines may stand.
+    controls: bool,
     section: Section,
     /// Those of the clients so far.
     addresses: Vec<u32>,
@@ -71,11 +74,12 @@ fn note(addresses: &mut Vec<u32>, address: u32) -> Result<(), NoMemory>
 }
 
 impl Position {
-    /// Before the first line.
-    pub(crate) fn start(alloc: Global) -> Position
-        ensures { StandsAt result reading.start }
+    /// Before the first line, where control lines may stand or not.
+    pub(crate) fn beginning(alloc: Global, controls: bool) -> Position
+        ensures { StandsAt result (reading.beginning controls) }
     {
         Position {
+            controls,
             section: Section::Start,
             addresses: Vec::new(alloc),
             link: LinkStream::new(alloc),
@@ -101,18 +105,20 @@ impl Position {
     }
 
     fn may_stand(&self, kind: Kind) -> bool
-        ensures { result ≡ reading.may_stand self.now.section (length self.now.addresses.items) kind }
+        ensures { result ≡ reading.may_stand self.now.controls self.now.section (length self.now.addresses.items) kind }
     {
         match self.section {
-            Section::Start => kind == Kind::Agent,
+            Section::Start => matches!(kind, Kind::Agent),
             Section::Settings => match kind {
                 Kind::Agent => false,
                 Kind::Client => self.addresses.len() < MOST_CLIENTS,
                 Kind::Event(_) => true,
+                Kind::Control => self.controls,
             },
             Section::Events => match kind {
                 Kind::Agent | Kind::Client => false,
                 Kind::Event(_) => true,
+                Kind::Control => self.controls,
             },
         }
     }
@@ -190,6 +196,33 @@ impl Position {
         }
     }
 
+    fn take_control(&mut self, alloc: Global, words: &[&[u8]]) -> Result<Line, LineFault>
+        ensures { (at : At) → StandsAt self.old at
+            → TakesStep result at (reading.control_step at (lines.control_of (plain words.now))) self.new }
+    {
+        let number = self.number();
+        match read_control(alloc, words) {
+            Ok(control) => {
+                self.section = Section::Events;
+                self.lines = number;
+                let Control {
+                    moment,
+                    address,
+                    port,
+                    octets,
+                } = control;
+                Ok(Line::Control {
+                    number,
+                    moment,
+                    address,
+                    port,
+                    octets,
+                })
+            }
+            Err(fault) => Err(word_fault(number, fault)),
+        }
+    }
+
     fn take_kind(&mut self, alloc: Global, kind: Kind, words: &[&[u8]]) -> Result<Line, LineFault>
         ensures { (at : At) → StandsAt self.old at
             → TakesStep result at (reading.kind_step at kind (plain words.now)) self.new }
@@ -198,6 +231,7 @@ impl Position {
             Kind::Agent => self.take_agent(alloc, words),
             Kind::Client => self.take_client(alloc, words),
             Kind::Event(name) => self.take_event(alloc, name, words),
+            Kind::Control => self.take_control(alloc, words),
         }
     }
 

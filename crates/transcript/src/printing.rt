@@ -3,10 +3,10 @@
 ghost use Rattle.std.specs.Prelude.{◌≡◌, ◌∷◌, [], ◌++◌, codes, decimal, IfOk, OnOk};
 ghost use Rattle.std.specs.String.{string_bytes};
 ghost use Rattle.hex.specs.Hex.{encode_lower};
-ghost use Rattle.agent_core.specs.declared.events.Output.TheVariants.{Dropped, Closed};
+ghost use Rattle.agent_events.specs.declared.events.Output.TheVariants.{Dropped, Closed};
 ghost use Rattle.transcript.specs.Text as text;
 
-use agent_core::Output;
+use agent_events::Output;
 use diameter_message::FrameFault;
 use peer_machine::LinkCause;
 use radius_packet::{Reason, Via};
@@ -112,15 +112,25 @@ fn reason_name(reason: Reason) -> &'static str
 }
 
 /// The line of an input about which nothing was done.
-fn drop_line(alloc: Global, line: u64, reason: Reason) -> Result<Octets, NoMemory>
+fn dropped_line(alloc: Global, line: u64, reason: Reason) -> Result<Octets, NoMemory>
     ensures { IfOk result (λ o. o ≡ text.output_line line (Dropped reason)) }
 {
     let number = reason.number();
     let name = reason_name(reason);
-    let text = match reason {
-        Reason::BadValue { code } => format!(in alloc; "{line} drop {number} {name} {code}\n")?,
-        _ => format!(in alloc; "{line} drop {number} {name}\n")?,
-    };
+    match reason {
+        Reason::BadValue { code } => {
+            let text = format!(in alloc; "{line} drop {number} {name} {code}\n")?;
+            Ok(Octets::from_vec(text.into_bytes()))
+        }
+        _ => print_drop(alloc, line, number, name),
+    }
+}
+
+/// The line of a drop, by its number and its name.
+pub fn print_drop(alloc: Global, line: u64, number: u32, name: &str) -> Result<Octets, NoMemory>
+    ensures { IfOk result (λ o. o ≡ text.drop_line line number name.now) }
+{
+    let text = format!(in alloc; "{line} drop {number} {name}\n")?;
     Ok(Octets::from_vec(text.into_bytes()))
 }
 
@@ -165,9 +175,27 @@ pub fn print(alloc: Global, line: u64, output: &Output) -> Result<Octets, NoMemo
             octets,
         } => reply_line(alloc, line, *via, *address, *port, octets.as_slice()),
         Output::Send { octets } => send_line(alloc, line, octets.as_slice()),
-        Output::Dropped { reason } => drop_line(alloc, line, *reason),
+        Output::Dropped { reason } => dropped_line(alloc, line, *reason),
         Output::Closed { cause } => close_line(alloc, line, *cause),
     }
+}
+
+/// The line of a packet that goes out to an access server, to this address and port, beside the agent.
+#[tactic(auto, unfolding(wire_core::specs::Numbers::u32))]
+pub fn print_control(
+    alloc: Global,
+    line: u64,
+    address: u32,
+    port: u16,
+    octets: &[u8],
+) -> Result<Octets, NoMemory>
+    ensures { IfOk result (λ o. o ≡ text.control_line line address port octets.now) }
+{
+    let [a, b, c, d] = address.to_be_bytes();
+    with_hex(
+        format!(in alloc; "{line} control {a}.{b}.{c}.{d} {port} ")?,
+        octets,
+    )
 }
 
 /// The last line: how many reply, send and drop lines there were.
@@ -175,5 +203,19 @@ pub fn print_end(alloc: Global, replies: u64, sends: u64, drops: u64) -> Result<
     ensures { IfOk result (λ o. o ≡ text.end_line replies sends drops) }
 {
     let text = format!(in alloc; "end {replies} {sends} {drops}\n")?;
+    Ok(Octets::from_vec(text.into_bytes()))
+}
+
+/// The last line where control lines were printed too: how many reply, send, drop and control lines there were.
+pub fn print_end_with_controls(
+    alloc: Global,
+    replies: u64,
+    sends: u64,
+    drops: u64,
+    controls: u64,
+) -> Result<Octets, NoMemory>
+    ensures { IfOk result (λ o. o ≡ text.end_line_with_controls replies sends drops controls) }
+{
+    let text = format!(in alloc; "end {replies} {sends} {drops} {controls}\n")?;
     Ok(Octets::from_vec(text.into_bytes()))
 }

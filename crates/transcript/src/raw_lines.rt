@@ -78,7 +78,7 @@ fn first_piece(octets: &[u8]) -> (&[u8], bool)
 }
 
 /// What was taken of a source, cut into lines.
-#[derive(Debug, Drop)]
+#[derive(Drop)]
 pub struct RawLines {
     intake: Intake,
     line: Vec<u8>,

@@ -1,7 +1,7 @@
 //! A reader of a transcript's lines, given one by one.
 
 ghost use Rattle.std.specs.Prelude.{◌≡◌, Err, Some, IfOk, IfErr};
-ghost use Rattle.transcript.specs.Reading.{At, read_line, start};
+ghost use Rattle.transcript.specs.Reading.{At, beginning, read_line, start, start_with_control};
 ghost use Rattle.transcript.specs.Positions.{IsReading, TakesLine, TakesSome, TooLong};
 ghost use Rattle.transcript.specs.declared.line_fault.LineFault.{LineFault};
 
@@ -20,15 +20,29 @@ pub struct LineReader {
 }
 
 impl LineReader {
-    /// Before the first line.
+    /// Before the first line, where control lines may stand or not.
+    fn beginning(alloc: Global, controls: bool) -> LineReader
+        ensures { IsReading result (beginning controls) }
+    {
+        LineReader {
+            alloc,
+            position: Position::beginning(alloc, controls),
+            refused: None,
+        }
+    }
+
+    /// Before the first line of a transcript without control lines.
     pub fn new(alloc: Global) -> Result<LineReader, NoMemory>
         ensures { IfOk result (λ reader. IsReading reader start) }
     {
-        Ok(LineReader {
-            alloc,
-            position: Position::start(alloc),
-            refused: None,
-        })
+        Ok(LineReader::beginning(alloc, false))
+    }
+
+    /// Before the first line of a transcript in which control lines may stand.
+    pub fn with_control(alloc: Global) -> Result<LineReader, NoMemory>
+        ensures { IfOk result (λ reader. IsReading reader start_with_control) }
+    {
+        Ok(LineReader::beginning(alloc, true))
     }
 
     /// Reads the next line, given without the octet 0a that ends it. After a refusal it answers the same from then on.

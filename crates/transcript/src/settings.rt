@@ -8,12 +8,12 @@ ghost use Rattle.transcript.specs.Views.{client_told, plain, settings_told};
 
 use crate::word_fault::WordFault;
 use crate::words::{read_address, read_addresses, read_choice, read_hex, read_number, read_u32};
-use agent_config::{Client, Clients, Config, is_client_in_limits, is_in_limits};
+use agent_settings::{Client, Clients, Config, is_client_in_limits, is_in_limits};
 use std::alloc::Global;
 use wire_core::Octets;
 
 /// The words after `agent`.
-#[derive(Clone, Copy, Debug)]
+#[derive(Clone, Copy)]
 struct AgentWords<'a> {
     host: &'a [u8],
     realm: &'a [u8],
@@ -28,7 +28,7 @@ struct AgentWords<'a> {
 }
 
 /// The words after `client`.
-#[derive(Clone, Copy, Debug)]
+#[derive(Clone, Copy)]
 struct ClientWords<'a> {
     name: &'a [u8],
     address: &'a [u8],

@@ -6,7 +6,7 @@ ghost use Rattle.transcript.specs.SettingsText as settings;
 ghost use Rattle.transcript.specs.Text as text;
 
 use crate::printing::push_digits;
-use agent_config::{Client, Config};
+use agent_settings::{Client, Config};
 use std::alloc::{AllocError, Global};
 use wire_core::{NoMemory, Octets};
 

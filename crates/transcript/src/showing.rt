@@ -22,7 +22,7 @@ use wire_core::{NoMemory, Octets};
 const LONGEST_LINE: usize = 140_000;
 
 /// What the octets of a line are.
-#[derive(Clone, Copy, Debug, PartialEq, Eq)]
+#[derive(Clone, Copy)]
 enum Protocol {
     /// A packet.
     Radius,

@@ -4,7 +4,7 @@ use std::alloc::AllocFailed;
 use wire_core::NoMemory;
 
 /// Why words can't be read.
-#[derive(Clone, Copy, Debug, PartialEq, Eq)]
+#[derive(Clone, Copy)]
 pub(crate) enum WordFault {
     /// They have another form.
     Bad,

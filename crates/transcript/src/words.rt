@@ -9,7 +9,7 @@ ghost use Rattle.transcript.specs.Reads.{Reads};
 ghost use Rattle.transcript.specs.Views.{plain};
 
 use crate::word_fault::WordFault;
-use agent_config::AddressList;
+use agent_settings::AddressList;
 use hex::FromHexError;
 use std::alloc::Global;
 use std::str;

@@ -16,7 +16,7 @@ use Rattle.attribute_table.specs.Rows.{row_of_avp}
 use Rattle.session_carrier.specs.Session.{class_text, state_text}
 use Rattle.session_carrier.specs.declared.kept.Kept.{Kept}
 use Rattle.session_carrier.specs.declared.kept.Numbers.{Numbers}
-use Rattle.agent_config.specs.declared.client.Client.{Client}
+use Rattle.agent_settings.specs.declared.client.Client.{Client}
 use Rattle.translation.specs.declared.service.Service.{Service}
 use Rattle.translation.specs.declared.service.Service.TheVariants.{Nasreq, Eap}
 use Rattle.translation.specs.declared.class.Class.{Class}

@@ -2,8 +2,8 @@
 use Rattle.std.proofs.Common.{◌≡◌, ◌≤◌, true, length, List, ℕ}
 use Rattle.std.specs.Prelude.{IsTrue}
 use Rattle.std.proofs.lemmas.Bool.{and_parts, leb-true}
-use Rattle.agent_config.specs.declared.client.Client.{Client}
-use Rattle.agent_config.specs.Config.{is_client_in_limits, is_name}
+use Rattle.agent_settings.specs.declared.client.Client.{Client}
+use Rattle.agent_settings.specs.Config.{is_client_in_limits, is_name}
 
 name_is_short : (xs : List ℕ) → is_name xs ≡ true → length xs ≤ 64
 name_is_short xs e = leb-true _ _ (and_parts _ _ e).1

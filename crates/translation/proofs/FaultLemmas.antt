@@ -7,7 +7,7 @@ use Rattle.std.specs.Option.{option_or}
 use Rattle.std.specs.List.{list_any}
 use Rattle.radius_packet.specs.Packet.{AttributeParts, attribute_text, attributes_text}
 use Rattle.radius_packet.specs.declared.reasons.Reason.TheVariants.{BadValue}
-use Rattle.agent_config.specs.declared.client.Client.{Client}
+use Rattle.agent_settings.specs.declared.client.Client.{Client}
 use Rattle.translation.specs.declared.direction.Direction.{Direction}
 use Rattle.translation.specs.declared.judging.Faults.{Faults}
 use Rattle.translation.specs.Values.{is_good, first_bad}

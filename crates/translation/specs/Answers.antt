@@ -9,7 +9,7 @@ use Rattle.diameter_message.specs.Results.{is_success, result_code}
 use Rattle.session_carrier.specs.declared.kept.Kept.{Kept}
 use Rattle.session_carrier.specs.declared.kept.Numbers.{Numbers}
 use Rattle.session_carrier.specs.declared.kept.Outcome.{Outcome}
-use Rattle.agent_config.specs.declared.client.Client.{Client}
+use Rattle.agent_settings.specs.declared.client.Client.{Client}
 use Rattle.translation.specs.declared.service.Service.{Service}
 use Rattle.translation.specs.declared.service.Service.TheVariants.{Nasreq, Eap}
 use Rattle.translation.specs.declared.class.Class.{Class}

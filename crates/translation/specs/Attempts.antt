@@ -4,7 +4,7 @@ use Rattle.diameter_avp.specs.Avps.{AvpParts}
 use Rattle.diameter_message.specs.declared.header.Header.{Header}
 use Rattle.diameter_message.specs.Results.{result_code}
 use Rattle.session_carrier.specs.declared.kept.Kept.{Kept}
-use Rattle.agent_config.specs.declared.client.Client.{Client}
+use Rattle.agent_settings.specs.declared.client.Client.{Client}
 use Rattle.translation.specs.declared.service.Service.{Service}
 use Rattle.translation.specs.declared.class.Class.{Class}
 use Rattle.translation.specs.declared.class.Class.TheVariants.{Bad, Refusal, Challenge, Success}

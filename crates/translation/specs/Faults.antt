@@ -5,7 +5,7 @@ use Rattle.std.specs.List.{list_any}
 use Rattle.radius_packet.specs.Packet.{AttributeParts, attributes_text}
 use Rattle.radius_packet.specs.declared.reasons.Reason.{Reason}
 use Rattle.radius_packet.specs.declared.reasons.Reason.TheVariants.{KeyAttribute, BadValue, ProxyStateTooLong}
-use Rattle.agent_config.specs.declared.client.Client.{Client}
+use Rattle.agent_settings.specs.declared.client.Client.{Client}
 use Rattle.translation.specs.declared.direction.Direction.{Direction}
 use Rattle.translation.specs.declared.judging.Faults.{Faults}
 use Rattle.translation.specs.Values.{is_good, first_bad}

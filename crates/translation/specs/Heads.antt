@@ -7,7 +7,7 @@ use Rattle.radius_packet.specs.Packet.{PacketParts, AttributeParts}
 use Rattle.diameter_avp.specs.Avps.{AvpParts}
 use Rattle.diameter_message.specs.PlainAvps.{origin_avps, plain_avp}
 use Rattle.session_carrier.specs.Route.{RouteParts}
-use Rattle.agent_config.specs.declared.client.Client.{Client}
+use Rattle.agent_settings.specs.declared.client.Client.{Client}
 use Rattle.translation.specs.Names.{host_avps}
 
 -- an EAP-Message (RFC 3579, section 3.1)

@@ -8,7 +8,7 @@ use Rattle.radius_packet.specs.declared.reasons.Reason.{Reason}
 use Rattle.radius_packet.specs.declared.reasons.Reason.TheVariants.{KeyAttribute, BadValue, ProxyStateTooLong}
 use Rattle.attribute_table.specs.Known.{is_key}
 use Rattle.attribute_table.specs.Vendors.{VendorPart, vendor_parts}
-use Rattle.agent_config.specs.declared.client.Client.{Client}
+use Rattle.agent_settings.specs.declared.client.Client.{Client}
 use Rattle.session_carrier.specs.declared.kept.Kind2.{Kind2}
 use Rattle.translation.specs.declared.direction.Direction.{Direction}
 use Rattle.translation.specs.Values.{first_bad}

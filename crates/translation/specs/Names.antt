@@ -3,7 +3,7 @@
 use Rattle.std.specs.Prelude.{ℕ, List, [], ◌∷◌, ◌++◌, Option, Some, None}
 use Rattle.diameter_avp.specs.Avps.{AvpParts}
 use Rattle.diameter_message.specs.PlainAvps.{origin_avps, plain_avp}
-use Rattle.agent_config.specs.declared.client.Client.{Client}
+use Rattle.agent_settings.specs.declared.client.Client.{Client}
 
 -- Session-Id, Origin-Host, Origin-Realm, Destination-Realm
 abbrev pub names : Client → List ℕ → List ℕ → List AvpParts

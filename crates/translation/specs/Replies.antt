@@ -12,7 +12,7 @@ use Rattle.attribute_table.specs.Rows.{row_of_avp}
 use Rattle.attribute_table.specs.Images.{backward_image}
 use Rattle.session_carrier.specs.Session.{class_text}
 use Rattle.session_carrier.specs.declared.kept.Kept.{Kept}
-use Rattle.agent_config.specs.declared.client.Client.{Client}
+use Rattle.agent_settings.specs.declared.client.Client.{Client}
 use Rattle.tunnel_map.specs.Groups.{group_fault, group_attributes}
 use Rattle.tunnel_map.specs.RoundTrip.{is_group}
 use Rattle.tunnel_map.specs.declared.fault.TunnelFault.{TunnelFault}

@@ -7,7 +7,7 @@ use Rattle.diameter_message.specs.Message.{message_text}
 use Rattle.diameter_message.specs.PlainAvps.{plain_avp}
 use Rattle.session_carrier.specs.declared.kept.Kept.{Kept}
 use Rattle.session_carrier.specs.declared.kept.Numbers.{Numbers}
-use Rattle.agent_config.specs.declared.client.Client.{Client}
+use Rattle.agent_settings.specs.declared.client.Client.{Client}
 use Rattle.translation.specs.Names.{names, host_avps}
 
 -- the names, Auth-Application-Id, Termination-Cause, Destination-Host where there is one

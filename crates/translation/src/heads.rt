@@ -4,12 +4,12 @@ ghost use Rattle.std.specs.Prelude.{◌≡◌, ◌≤◌, length, IfSome, OnOk};
 ghost use Rattle.radius_packet.specs.Views.{attribute_view};
 ghost use Rattle.diameter_message.specs.Writer.{list_length, Puts};
 ghost use Rattle.session_carrier.specs.Route.{route_view};
-ghost use Rattle.agent_config.specs.Config.{ClientInLimits};
+ghost use Rattle.agent_settings.specs.Config.{ClientInLimits};
 ghost use Rattle.translation.specs.Heads as specs;
 
 use crate::codes::{CHAP_PASSWORD, EAP_MESSAGE, USER_PASSWORD};
 use crate::names::put_host;
-use agent_config::Client;
+use agent_settings::Client;
 use diameter_message::MessageWriter;
 use diameter_message::avp_codes::{
     AUTH_APPLICATION_ID, AUTH_REQUEST_TYPE, DESTINATION_REALM, ORIGIN_AAA_PROTOCOL, SESSION_ID,

@@ -10,7 +10,7 @@ ghost use Rattle.translation.specs.Faults as faults;
 use crate::codes::{NAS_IP_ADDRESS, PROXY_STATE, VENDOR_SPECIFIC};
 use crate::direction::Direction;
 use crate::values::is_good;
-use agent_config::Client;
+use agent_settings::Client;
 use attribute_table::{is_key, vsa};
 use radius_packet::{Attribute, Reason};
 use wire_core::get_u32;

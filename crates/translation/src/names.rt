@@ -5,7 +5,7 @@ ghost use Rattle.std.specs.Option.{option_copied};
 ghost use Rattle.diameter_message.specs.Writer.{list_length, Puts};
 ghost use Rattle.translation.specs.Names as specs;
 
-use agent_config::Client;
+use agent_settings::Client;
 use diameter_message::MessageWriter;
 use diameter_message::avp_codes::{DESTINATION_HOST, DESTINATION_REALM, SESSION_ID};
 use wire_core::NoMemory;

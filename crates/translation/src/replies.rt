@@ -13,7 +13,7 @@ use crate::class::Class;
 use crate::codes::{ACCESS_ACCEPT, ACCESS_CHALLENGE, ACCESS_REJECT};
 use crate::pushing::{Unfit, push_all};
 use crate::service::Service;
-use agent_config::Client;
+use agent_settings::Client;
 use diameter_avp::Avp;
 use diameter_message::avp_codes::{ORIGIN_HOST, ORIGIN_REALM};
 use radius_packet::Reply;

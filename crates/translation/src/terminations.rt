@@ -2,12 +2,12 @@
 
 ghost use Rattle.std.specs.Prelude.{◌≡◌, ◌≤◌, length, IfOk, IfSome, OnOk};
 ghost use Rattle.std.specs.Option.{option_copied};
-ghost use Rattle.agent_config.specs.Config.{ClientInLimits};
+ghost use Rattle.agent_settings.specs.Config.{ClientInLimits};
 ghost use Rattle.diameter_message.specs.Writer.{list_length, Puts};
 ghost use Rattle.translation.specs.Termination as specs;
 
 use crate::names::{put_host, put_names};
-use agent_config::Client;
+use agent_settings::Client;
 use diameter_message::avp_codes::{AUTH_APPLICATION_ID, TERMINATION_CAUSE};
 use diameter_message::command_codes::SESSION_TERMINATION;
 use diameter_message::command_flags::{PROXIABLE, REQUEST};

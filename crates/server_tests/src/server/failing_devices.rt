@@ -1,10 +1,10 @@
 //! How runs over memory end, some of whose devices fail.
 
-ghost use Rattle.agent_config.specs.Config.{InLimits};
+ghost use Rattle.agent_settings.specs.Config.{InLimits};
 
 use super::octets::{CAPABLE, INCAPABLE, base, settings};
-use agent_config::Config;
 use agent_server::{Finish, World, serve};
+use agent_settings::Config;
 use agent_status::Status;
 use peer_machine::LinkCause;
 use std::alloc::{AllocError, Global};

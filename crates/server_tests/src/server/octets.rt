@@ -1,9 +1,9 @@
 //! Settings, packets and messages of the tests. The octets were computed by a program of another kind, with its own MD5.
 
 ghost use Rattle.std.specs.Prelude.{◌≡◌, IfOk};
-ghost use Rattle.agent_config.specs.Config.{InLimits};
+ghost use Rattle.agent_settings.specs.Config.{InLimits};
 
-use agent_config::{AddressList, Client, Clients, Config, is_client_in_limits, is_in_limits};
+use agent_settings::{AddressList, Client, Clients, Config, is_client_in_limits, is_in_limits};
 use std::alloc::Global;
 use std::test::Fail;
 use wire_core::{NoMemory, Octets};
@@ -183,7 +183,7 @@ fn nas(alloc: Global) -> Result<Client, NoMemory> {
 pub(super) fn settings(alloc: Global) -> Result<Config, NoMemory>
     ensures { IfOk result InLimits }
 {
-    agent_config::client_keeps_limits();
+    agent_settings::client_keeps_limits();
     let mut config = Config {
         host: Octets::copy(alloc, b"agent.example")?,
         realm: Octets::copy(alloc, b"example")?,

@@ -1,9 +1,9 @@
 use Rattle.std.proofs.Common.{◌≡◌, None, Ok, List, [], map, unwrap_or, sym, ap, ◌∙◌}
 use Rattle.std.proofs.lemmas.Result.{err_from_is_err_and}
 use Rattle.toml.specs.View.{items_view, table_view}
-use Rattle.agent_config.specs.declared.client.Client.{Client}
-use Rattle.agent_config.specs.declared.config.Config.{Config}
-use Rattle.agent_config.specs.Config.{twice}
+use Rattle.agent_settings.specs.declared.client.Client.{Client}
+use Rattle.agent_settings.specs.declared.config.Config.{Config}
+use Rattle.agent_config.specs.Twice.{twice}
 use Rattle.agent_config.specs.Settings.{client_of, client_tables, clients_faults, clients_of, first, tables_in}
 use Rattle.agent_config.proofs.FaultLemmas.{settled-top, settled-client, settled-twice, settled-ok}
 use Rattle.agent_config.proofs.reading.read_table.Goals as goal

@@ -3,8 +3,8 @@ use Rattle.std.specs.Arc.{arc_value}
 use Rattle.radius_packet.specs.declared.reasons.Via.TheVariants.{Auth, Acct}
 use Rattle.turnstile.specs.Passes.{known}
 use Rattle.turnstile.specs.Turns.{of}
-use Rattle.agent_server.specs.Entries.{ticks}
-use Rattle.agent_server.specs.Running.{RoseBy}
+use Rattle.server_workers.specs.Entries.{ticks}
+use Rattle.server_workers.specs.Running.{RoseBy}
 use Rattle.agent_server.proofs.StartingLemmas.{carries-same, ends-early, link-started, reader-at, reader-starts, served-from}
 use Rattle.agent_server.proofs.server.run.Goals as goal
 

@@ -1,5 +1,5 @@
 use Rattle.std.proofs.Common.{refl}
-use Rattle.agent_server.specs.declared.desk.RunBase.{RunBase}
+use Rattle.server_workers.specs.declared.base.RunBase.{RunBase}
 use Rattle.agent_server.proofs.server.serve.Goals as goal
 
 pub returns-clause-served : goal.returns-clause-served

@@ -1,5 +1,5 @@
 use Rattle.std.proofs.Common.{◌≤◌, List, drop}
-use Rattle.agent_config.specs.declared.config.Config.{Config}
+use Rattle.agent_settings.specs.declared.config.Config.{Config}
 use Rattle.agent_core.specs.Places.{Place}
 use Rattle.text_commands.specs.Session.{RunsAt}
 use Rattle.text_commands.proofs.SessionLemmas.{InRun}

@@ -1,7 +1,7 @@
 -- Where nothing refuses, the request is taken up.
 use Rattle.std.proofs.Common.{◌≡◌, [], ◌∷◌, ◌∙◌, sym, refl, ap}
 use Rattle.session_carrier.specs.declared.kept.Numbers.{Numbers}
-use Rattle.agent_core.specs.declared.events.Output.TheVariants.{Send}
+use Rattle.agent_events.specs.declared.events.Output.TheVariants.{Send}
 use Rattle.agent_core.specs.Requests.{request_sent}
 use Rattle.agent_core.specs.Verdicts.{request_with}
 use Rattle.agent_core.proofs.Considered.{takes-it-up}

@@ -2,7 +2,7 @@
 use Rattle.std.proofs.Common.{◌≡◌, ◌+◌, ◌++◌, length, List, ℕ, ◌≤◌, ap, sym, subst, ◌∙◌, arith}
 use Rattle.std.specs.List.{AllByRecursion}
 use Rattle.pending_table.specs.Table as table
-use Rattle.agent_core.specs.declared.events.Output.{Output}
+use Rattle.agent_events.specs.declared.events.Output.{Output}
 use Rattle.agent_core.specs.Standing.{IsWhole}
 use Rattle.agent_core.proofs.Resending.{sends_from, resends-are, sends-few, sends-whole}
 use Rattle.agent_core.proofs.ledger.Ledger.copies.Goals as goal

@@ -3,7 +3,7 @@ use Rattle.std.proofs.Common.{List, ℕ, sym, subst}
 use Rattle.std.specs.Prelude.{IsTrue}
 use Rattle.std.proofs.lemmas.Bool.{and_parts}
 use Rattle.wire_core.specs.Words.{is_identity}
-use Rattle.agent_config.proofs.Limits.{settings_facts}
+use Rattle.agent_settings.proofs.Limits.{settings_facts}
 use Rattle.agent_core.proofs.ledger.Ledger.new.Goals as goal
 
 pub new-requires-2-clause-host : goal.new-requires-2-clause-host

@@ -1,7 +1,7 @@
 use Rattle.std.proofs.Common.{◌≡◌, ◌∙◌, ◌∷◌, [], ◌++◌, true, List, Some, ap, sym, subst, refl, arith}
-use Rattle.agent_config.specs.declared.config.Config.{Config}
-use Rattle.agent_config.specs.declared.client.Client.{Client}
-use Rattle.agent_config.specs.Config.{InLimits, are_settings_in_limits, is_client_in_limits}
+use Rattle.agent_settings.specs.declared.config.Config.{Config}
+use Rattle.agent_settings.specs.declared.client.Client.{Client}
+use Rattle.agent_settings.specs.Config.{InLimits, are_settings_in_limits, is_client_in_limits}
 use Rattle.server_tests.proofs.server.octets.settings.Goals as goal
 
 pub returns : goal.returns

@@ -1,4 +1,4 @@
-use Rattle.std.proofs.Common.{[], List, ℕ, sym, ap, subst, refl}
+use Rattle.std.proofs.Common.{[], List, ℕ, sym, ap, subst}
 use Rattle.diameter_message.specs.Framing.{StandsFor}
 use Rattle.std.specs.Prelude.{is_some}
 use Rattle.transcript.proofs.InputLemmas.{no-fault, no-messages}

@@ -1,4 +1,4 @@
-use Rattle.std.proofs.Common.{rules, ◌≡◌, true, sym, ap, ◌∙◌, refl}
+use Rattle.std.proofs.Common.{rules}
 use Rattle.transcript.proofs.position.Position.take_client.Goals as goal
 
 pub returns-then-contains : goal.returns-then-contains

@@ -1,5 +1,0 @@
-use Rattle.agent_config.proofs.Limits as lemmas
-use Rattle.agent_config.proofs.laws.client_keeps_limits.Goals as goal
-
-pub returns : goal.returns
-returns c = lemmas.client_keeps_limits

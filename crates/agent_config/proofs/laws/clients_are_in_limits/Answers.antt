@@ -1,5 +1,0 @@
-use Rattle.agent_config.proofs.Limits as lemmas
-use Rattle.agent_config.proofs.laws.clients_are_in_limits.Goals as goal
-
-pub returns : goal.returns
-returns c = lemmas.clients_are_in_limits

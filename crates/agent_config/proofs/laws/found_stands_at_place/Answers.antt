@@ -1,5 +1,0 @@
-use Rattle.agent_config.proofs.Limits as lemmas
-use Rattle.agent_config.proofs.laws.found_stands_at_place.Goals as goal
-
-pub returns : goal.returns
-returns c = lemmas.found_stands_at_place

@@ -1,7 +1,0 @@
-use Rattle.std.proofs.Common.{◌≡◌, take}
-use Rattle.agent_server.specs.Entries.{octets_in}
-use Rattle.agent_server.proofs.link_writer.joined.Given as goal
-
--- the messages so far
-abbrev pub invariant-loop-output : goal.invariant-loop-output
-invariant-loop-output l = l.piece.items ≡ octets_in (take l.output-index l.outputs)

@@ -1,0 +1,3 @@
+pub mod DigestLemmas
+pub mod DisconnectLemmas
+pub mod VerdictLemmas

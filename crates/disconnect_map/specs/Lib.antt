@@ -1,0 +1,2 @@
+pub mod Disconnects
+pub mod Verdicts

@@ -1,0 +1,12 @@
+pub mod DialLemmas
+pub mod EntryLemmas
+pub mod GoingLemmas
+pub mod GrowthLemmas
+pub mod LinkOverLemmas
+pub mod LinkReadingLemmas
+pub mod LinkTurnLemmas
+pub mod NextLinkLemmas
+pub mod SocketReadingExamples
+pub mod SocketReadingLemmas
+pub mod TurnLemmas
+pub mod WritingLemmas

@@ -1,0 +1,41 @@
+use Rattle.std.proofs.Common.{arith}
+use Rattle.std.specs.Arc.{arc_value}
+use Rattle.turnstile.specs.Passes.{known}
+use Rattle.server_workers.proofs.NextLinkLemmas.{ends-finished, ends-undialled, ends-worn, goes-after, rests-on, ticked-dials}
+use Rattle.server_workers.proofs.running.next_link.Goals as goal
+
+pub returns-then-len-ge-MOST_LINKS-clause-next : goal.returns-then-len-ge-MOST_LINKS-clause-next
+returns-then-len-ge-MOST_LINKS-clause-next g c =
+    let (left, went) = c.give_up.ensures.went in
+    rw c.give_up.ensures.next
+    (ends-worn g.L.In.LinkIn.told g.L.Out.LinkOut.told g.D.Datagrams.told (g.L.Dialer.told c.args.dialer.now) _ (known c.args.pass.now) (known c.give_up.new.pass) c.args.twins
+    c.args.past.now left c.requires.row c.requires.rests went (omega (arith, c.len.ensures, c.if-len-ge-MOST_LINKS.true)))
+
+pub open_link-requires-clause-rests : goal.open_link-requires-clause-rests
+open_link-requires-clause-rests g c κs within =
+    let (mine, went, d) = c.in-Made.ensures.dialled in
+    rests-on g.L.In.LinkIn.told g.L.Out.LinkOut.told g.D.Datagrams.told (known c.args.pass.now) (known c.dial.new.pass) c.args.twins c.args.past.now mine d.asks went c.requires.rests
+
+pub returns-in-Made-clause-next : goal.returns-in-Made-clause-next
+returns-in-Made-clause-next g c =
+    let (mine, went, d) = c.in-Made.ensures.dialled in
+    let before = g.L.Dialer.told c.args.dialer.now in
+    let now = g.L.Dialer.told c.dial.new.dialer in
+    goes-after g.L.In.LinkIn.told g.L.Out.LinkOut.told g.D.Datagrams.told c.open_link.result (arc_value c.args.turnstile.now) before now now _ _ (known c.args.pass.now)
+    (known c.dial.new.pass) (known c.open_link.new.pass) c.open_link.new.past went.first
+    (ticked-dials (known c.args.pass.now) (known c.dial.new.pass) mine before.faults now.faults c.requires.rests.numbers went d.faults d.grows)
+    (c.open_link.ensures.next now d.ends.0)
+
+pub returns-in-Finished-clause-next : goal.returns-in-Finished-clause-next
+returns-in-Finished-clause-next g c =
+    let (mine, went, d) = c.in-Finished.ensures.dialled in
+    ends-finished g.L.In.LinkIn.told g.L.Out.LinkOut.told g.D.Datagrams.told c.leave.result (g.L.Dialer.told c.args.dialer.now) (g.L.Dialer.told c.dial.new.dialer) _ (known c.args.pass.now)
+    (known c.dial.new.pass) (known c.leave.new.pass) c.args.twins c.args.past.now mine c.requires.row c.requires.rests went d c.leave.ensures.left
+
+pub returns-in-Failed-clause-next : goal.returns-in-Failed-clause-next
+returns-in-Failed-clause-next g c =
+    let (mine, went, d) = c.in-Failed.ensures.dialled in
+    let (left, gone) = c.give_up-in-Failed.ensures.went in
+    rw c.give_up-in-Failed.ensures.next
+    (ends-undialled g.L.In.LinkIn.told g.L.Out.LinkOut.told g.D.Datagrams.told (g.L.Dialer.told c.args.dialer.now) (g.L.Dialer.told c.dial.new.dialer) _ (known c.args.pass.now)
+    (known c.dial.new.pass) (known c.give_up-in-Failed.new.pass) c.args.twins c.args.past.now mine left c.requires.row c.requires.rests went d gone)

@@ -1,0 +1,17 @@
+use Rattle.std.proofs.Common.{◌≡◌}
+use Rattle.std.specs.Arc.{arc_value}
+use Rattle.turnstile.specs.Passes.{known, table_of}
+use Rattle.turnstile.specs.Turns.{of}
+use Rattle.server_workers.specs.Running.{StartedAs, Ticked}
+use Rattle.server_workers.proofs.running.serve_links.Given as goal
+
+-- a link is open, its reader runs, and no start was refused so far
+abbrev pub invariant-loop : goal.invariant-loop
+invariant-loop g l = record {
+  table : table_of l.pass ≡ table_of l.initial.pass;
+  started : StartedAs g.L.In.LinkIn.told g.L.Out.LinkOut.told g.D.Datagrams.told (arc_value l.turnstile) (known l.pass) l.live.helper l.live.link_out l.past;
+  row : (g.L.Dialer.told l.dialer).row ≡ 0;
+  first : (known l.pass).first ≡ (known l.initial.pass).first;
+  ticked : Ticked (of 0 (known l.initial.pass).seen) (of 0 (known l.pass).seen) (g.L.Dialer.told l.initial.dialer).faults (g.L.Dialer.told l.dialer).faults;
+  unrefused : g.W.Crew.faults l.crew ≡ g.W.Crew.faults l.initial.crew;
+}

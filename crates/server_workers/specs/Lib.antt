@@ -1,0 +1,9 @@
+pub mod Entries
+pub mod Going
+pub mod LinkReading
+pub mod LinkWriting
+pub mod Running
+pub mod Segments
+pub mod Serving
+pub mod SocketReading
+pub mod Workers

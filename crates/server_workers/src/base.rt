@@ -1,0 +1,13 @@
+//! What a run of the server begins from.
+
+use agent_settings::Config;
+use std::collections::LinkedList;
+
+/// What a run begins from: the settings, the moment of its end, and the clock's readings before the first turn. Contracts
+/// alone speak of it.
+#[derive(Drop)]
+pub struct RunBase {
+    pub config: Config,
+    pub until: u64,
+    pub before: LinkedList<u64>,
+}

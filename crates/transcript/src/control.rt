@@ -1,0 +1,34 @@
+//! What a control line tells.
+
+ghost use Rattle.transcript.specs.Lines as lines;
+ghost use Rattle.transcript.specs.Reads.{Reads};
+ghost use Rattle.transcript.specs.Views.{plain};
+
+use crate::word_fault::WordFault;
+use crate::words::{read_address, read_hex, read_number, read_u16};
+use std::alloc::Global;
+use wire_core::Octets;
+
+/// What a control line tells: a packet that came at a moment, in milliseconds, and where it came from.
+#[derive(Drop)]
+pub(crate) struct Control {
+    pub(crate) moment: u64,
+    pub(crate) address: u32,
+    pub(crate) port: u16,
+    pub(crate) octets: Octets,
+}
+
+/// The words of a control line.
+pub(crate) fn read_control(alloc: Global, words: &[&[u8]]) -> Result<Control, WordFault>
+    ensures { Reads result (lines.control_of (plain words.now)) }
+{
+    match words {
+        [moment, _, address, port, hex] => Ok(Control {
+            moment: read_number(moment, u64::MAX)?,
+            address: read_address(address)?,
+            port: read_u16(port)?,
+            octets: read_hex(alloc, hex)?,
+        }),
+        _ => Err(WordFault::Bad),
+    }
+}
