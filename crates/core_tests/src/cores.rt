@@ -16,7 +16,7 @@ use std::test::Fail;
 use wire_core::{NoMemory, Octets};
 
 /// Settings with one client.
-fn settings(alloc: Global) -> Result<Config, ConfigFault>
+pub(crate) fn settings(alloc: Global) -> Result<Config, ConfigFault>
     ensures { IfOk result InLimits }
 {
     agent_config::settings_are_in_limits();

@@ -1,7 +1,9 @@
-//! Tests of the table of live requests, of the link's rules and of the core, by their public calls alone. What they do with
-//! each input, the transcripts of `examples/` and `.ci/cases/` show.
+//! Tests of the table of live requests, of the link's rules, of the core and of the book of sessions, by their public calls
+//! alone. What the first three do with each input, the transcripts of `examples/` and `.ci/cases/` show.
 #![tactic(auto)]
 
+#[cfg(test)]
+mod books;
 #[cfg(test)]
 mod cores;
 #[cfg(test)]

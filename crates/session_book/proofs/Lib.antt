@@ -1,0 +1,11 @@
+pub mod ReadingLemmas
+pub mod BookLemmas
+pub mod LedgerLemmas
+pub mod Opening
+pub mod CorePasses
+pub mod Simulation
+pub mod Members
+pub mod Separation
+pub mod Spoken
+pub mod LawLemmas
+pub mod ShortSessions

@@ -1,0 +1,10 @@
+use Rattle.std.proofs.Common.{◌≡◌, None}
+use Rattle.std.specs.Prelude.{option_copied}
+use Rattle.diameter_avp.specs.Avps.{avp_items}
+use Rattle.session_book.proofs.ReadingLemmas.{only_after}
+use Rattle.session_book.proofs.reading.only.Given as goal
+
+-- what was found, and what is left
+abbrev pub invariant-loop-item : goal.invariant-loop-item
+invariant-loop-item l =
+    only_after l.code (option_copied l.found) l.item-iterator ≡ only_after l.code None (avp_items l.octets)

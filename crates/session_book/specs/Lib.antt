@@ -1,0 +1,14 @@
+pub mod Reasons
+pub mod KeyLaws
+pub mod Book
+pub mod Holding
+pub mod Aborts
+pub mod Reading
+pub mod Answers
+pub mod Places
+pub mod History
+pub mod Standing
+pub mod Planned
+pub mod State
+pub mod Promise
+pub mod Laws
