@@ -22,11 +22,13 @@ use crate::peer_commands::{run_home, run_nas};
 use crate::server_run::{idle, run_server};
 use agent_server::{Finish, Worker, World};
 use agent_status::Status;
+use dynamic_command::dynamic;
 use peer_runs::Place;
+use replay_command::{measure, replay};
 use std::alloc::Global;
 use std::hash::RandomState;
 use std::sync::Wait;
-use text_commands::{check, generate, measure, replay, show};
+use text_commands::{check, generate, show};
 use wire_core::{Sink, Source};
 use wire_devices::{Clock, Crew, Datagrams, Dialer};
 
@@ -50,6 +52,7 @@ fn run_text<S: Source, K: Sink>(
 {
     match command {
         TextCommand::Replay => replay(alloc, random, input, output),
+        TextCommand::Dynamic => dynamic(alloc, random, input, output),
         TextCommand::Check => check(alloc, input, output),
         TextCommand::Show => show(alloc, input, output),
         TextCommand::Generate { count, seed } => generate(alloc, count, seed, output),

@@ -36,6 +36,8 @@ pub enum Places {
 #[derive(Clone, Copy)]
 pub(crate) enum TextCommand {
     Replay,
+    /// A replay with a book of sessions beside the agent.
+    Dynamic,
     Check,
     Show,
     /// A transcript of so many logins, by this seed.
@@ -65,6 +67,7 @@ fn command_named(word: &str) -> Option<TextCommand>
 {
     match word {
         "replay" => Some(TextCommand::Replay),
+        "dynamic" => Some(TextCommand::Dynamic),
         "check" => Some(TextCommand::Check),
         "show" => Some(TextCommand::Show),
         _ => None,

@@ -31,6 +31,7 @@ use wire_devices::{
 
 const USAGE: &str = "\
 usage: agent replay < TRANSCRIPT
+       agent dynamic < TRANSCRIPT
        agent check < SETTINGS
        agent show < LINES
        agent generate LOGINS SEED
@@ -46,6 +47,10 @@ const HELP: &str = "
 replay reads a transcript: a line of settings, lines of clients, and lines of events, each with its moment in
 milliseconds. It prints what the agent sends for each event, after the number of its line, and at last how many
 replies, messages and drops there were.
+
+dynamic does the same with a book of sessions beside the agent: where the home server ends a session that is in the
+book, by an Abort-Session-Request, a Disconnect-Request goes to the session's access server. Its packets come in as
+lines 'MOMENT control ADDRESS PORT HEX', and at last the Disconnect-Requests are counted too.
 
 check reads settings, a TOML document of at most 2^20 octets, and prints them as lines of a transcript, or says which
 key is wrong: of the client of this number, or of the top table, which is 0.
@@ -108,13 +113,16 @@ fn wanted(command: Option<Command>, line: u64, reason: u32) -> &'static str {
                 },
             ),
         ) => { "expected 'radius HEX' or 'diameter HEX'" }
-        (2, _) => {
-            if line == 1 {
-                "expected an agent line"
-            } else {
-                "expected an event line, or a client line before all events"
-            }
-        }
+        (2, _) if line == 1 => "expected an agent line",
+        (
+            2,
+            Some(
+                Command::Text {
+                    command: TextCommand::Dynamic,
+                },
+            ),
+        ) => { "expected an event or control line, or a client line before all events" }
+        (2, _) => "expected an event line, or a client line before all events",
         (
             3,
             Some(

@@ -1,6 +1,5 @@
 pub mod CheckLemmas
-pub mod MeasureLemmas
-pub mod ReplayLemmas
-pub mod SessionLemmas
+pub mod FollowingLemmas
+pub mod OutputLemmas
 pub mod ShowLemmas
 pub mod TaskLemmas

@@ -10,7 +10,6 @@ use Rattle.wire_core.specs.Source.{Consumes}
 use Rattle.wire_core.proofs.SourceLaws.{Consumes-append, Consumes-end, Consumes-none, Consumes-told}
 use Rattle.wire_core.specs.Sink.{Appends, AppendsPrefix}
 use Rattle.wire_core.proofs.SinkLaws.{Appends-append, Appends-none, AppendsPrefix-append, AppendsPrefix-front, AppendsPrefix-none, AppendsPrefix-whole}
-use Rattle.agent_core.proofs.Lists.{AllByRecursion-push}
 use Rattle.transcript.specs.Reading.{Bad}
 use Rattle.transcript.specs.Streams.{Cutting, IsUnended, TakesRawLine, TakesNone, most_octets, rest_of}
 use Rattle.transcript.specs.Words.{lines_of}
@@ -21,6 +20,10 @@ use Rattle.transcript.proofs.LineLemmas.{lines-cut, lines-front, lines-last}
 use Rattle.agent_status.specs.declared.status.Status.{Status}
 use Rattle.agent_status.specs.declared.status.Status.TheVariants.{Done, Usage, BadConfig, BadTranscript, ReadFault, WriteFault, OutOfMemory, TooLong, LinkFault, PeerRefused, NoThread, DatagramFault, LinkEnded}
 use Rattle.text_commands.specs.Tasks.{Adds, AreLines, Closes, EndsBy, EndsCounts, Finishes, IsBad, IsTask, StatusOf, Task, WorksNot, WritesPart, ended_text}
+
+each-push : {X : Type 0} (P : X → Type 0) (xs : List X) (y : X) → AllByRecursion P xs → P y → AllByRecursion P (xs ++ y ∷ [])
+each-push P [] y each is = (is, tt)
+each-push P (x ∷ xs) y each is = (each.0, each-push P xs y each.1 is)
 
 -- ---- lines and their octets
 
@@ -180,7 +183,7 @@ module _ (task : Task) (took : List (List ℕ) → Type 0) (law : IsTask task) w
   goes-on {input = input} {before = before} old new left then g takes unended taken text adds after wrote = record {
     lines = g.lines ++ new.line ∷ [];
     taken = taken;
-    each = AllByRecursion-push IsUnended g.lines new.line g.each unended;
+    each = each-push IsUnended g.lines new.line g.each unended;
     sound = adds.sound;
     wrote = subst (Appends before after) (sym adds.text) (Appends-append g.wrote wrote);
     passed = omega (arith, g.passed, takes.1, ap length (ended-push g.lines new.line), length-append (ended_text g.lines) (with_end new.line), length-append new.line (10 ∷ []));
@@ -304,7 +307,7 @@ module _ (task : Task) (took : List (List ℕ) → Type 0) (law : IsTask task) w
       → Adds task g.lines l text → AppendsPrefix now after text → WritesPart task X then before after
   part-more {before} {now} {after} X c left then g l ending text more unended are further adds wrote = record {
     lines = g.lines ++ l ∷ [];
-    each = AllByRecursion-push IsUnended g.lines l g.each unended;
+    each = each-push IsUnended g.lines l g.each unended;
     sound = adds.sound;
     octets = ended_text g.lines ++ (l ++ ending);
     are_lines = are;

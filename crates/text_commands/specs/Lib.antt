@@ -1,9 +1,9 @@
 pub mod Checks
+pub mod Following
 pub mod Generated
-pub mod Replay
-pub mod Session
 pub mod SettingsInput
 pub mod Shown
 pub mod Status
 pub mod Tasks
+pub mod Transcripts
 pub mod WholeInput

@@ -55,11 +55,14 @@ Works task took (Ok done) lines line before now =
 Works task took (Err status) lines line before now = WorksNot task status lines line before now
 
 -- what stands after all lines was written, or wasn't
+abbrev pub ClosesWith : Status → List ℕ → Option (List ℕ) → Option (List ℕ) → Type 0
+ClosesWith Done text before now = Appends before now text
+ClosesWith WriteFault text before now = AppendsPrefix before now text
+ClosesWith OutOfMemory text before now = now ≡ before
+ClosesWith status text before now = ⊥
+
 abbrev pub Closes : Task → Status → List (List ℕ) → Option (List ℕ) → Option (List ℕ) → Type 0
-Closes task Done lines before now = Appends before now (task.close lines)
-Closes task WriteFault lines before now = AppendsPrefix before now (task.close lines)
-Closes task OutOfMemory lines before now = now ≡ before
-Closes task status lines before now = ⊥
+Closes task status lines before now = ClosesWith status (task.close lines) before now
 
 -- the last line was taken, and what stands after all lines was written
 abbrev pub Finishes : Task → Status → List (List ℕ) → List ℕ → Option (List ℕ) → Option (List ℕ) → Type 0

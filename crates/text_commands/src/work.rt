@@ -11,7 +11,7 @@ use transcript::{RawFault, RawLine, RawLines};
 use wire_core::{Put, Sink, Source};
 
 /// What a command does with each line of its input.
-pub(crate) trait Work {
+pub trait Work {
     /// What it makes of all lines.
     ghost task: { Task };
 

@@ -1,10 +1,11 @@
 //! The commands over memory, some of whose reads and writes fail.
 
 use crate::statuses::is_told;
+use replay_command::{measure, replay};
 use std::alloc::Global;
 use std::hash::RandomState;
 use std::test::Fail;
-use text_commands::{check, generate, measure, replay, show};
+use text_commands::{check, generate, show};
 use wire_core::{MemorySink, MemorySource, NoMemory};
 
 /// A login that is accepted.

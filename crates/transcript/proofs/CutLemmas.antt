@@ -1,4 +1,4 @@
--- A `link` line in one piece, and in two of the same moment.
+-- A `link` line in one piece, and in two of the same moment, for whatever follows the lines.
 use Rattle.std.proofs.Common.{◌≡◌, ◌≢◌, ℕ, ◌+◌, ◌<◌, ◌≤◌, Bool, true, false, cond, eqb, List, [], ◌∷◌, ◌++◌, length, codes, Option, Some, None, Ok, Err, refl, sym, ap, ◌∙◌, subst, append_assoc, arith}
 use Rattle.std.specs.Prelude.{nat_lt}
 use Rattle.std.specs.List.{list_any}
@@ -7,15 +7,13 @@ use Rattle.wire_core.specs.Counts.{one_more}
 use Rattle.agent_settings.specs.declared.client.Client.{Client}
 use Rattle.agent_settings.specs.declared.config.Config.{Config}
 use Rattle.agent_events.specs.declared.events.Input.{Input}
-use Rattle.agent_core.specs.Places.{Place}
-use Rattle.agent_core.specs.History.{place}
-use Rattle.transcript.specs.Cuts.{LinkLinesCanBeCut, inputs_outputs, line_outputs, link_line, outputs_of_lines}
+use Rattle.transcript.specs.Generator.{link_line}
 use Rattle.transcript.specs.Grammar.{IsHex, IsNumber, SaysWords}
 use Rattle.transcript.specs.Inputs.{inputs_of, link_inputs}
 use Rattle.transcript.specs.Kinds.{kind_of}
 use Rattle.transcript.specs.Lines.{client_of, control_of, event_of, settings_of}
-use Rattle.transcript.specs.Reading.{At, Said, Step, agent_step, beginning, client_step, control_step, event_step, kind_step, may_stand, read_from, read_line, said_on, words_step}
-use Rattle.transcript.specs.Run.{Running, Settings, Stage, event_at, first, follow, places_after, stage_after}
+use Rattle.transcript.specs.Reading.{At, Said, Step, agent_step, client_step, control_step, event_step, kind_step, may_stand, read_from, read_line, said_on, words_step}
+use Rattle.transcript.specs.Told.{after_lines, given_by}
 use Rattle.transcript.specs.Words.{words_of}
 use Rattle.transcript.specs.declared.control.Control.{Control}
 use Rattle.transcript.specs.declared.happening.Happening.{Happening}
@@ -31,40 +29,6 @@ use Rattle.transcript.proofs.GrammarLemmas.{line-says}
 use Rattle.transcript.proofs.GrammarWordLemmas.{hex-joined}
 use Rattle.transcript.proofs.ReadingLemmas.{event-is-line, event-reads, event_next, hex-behind}
 
--- ---- inputs that are followed in two pieces
-
-places-append : (config : Config) (ps : List Place) (moment : ℕ) (xs ys : List Input)
-    → places_after config ps moment (xs ++ ys) ≡ places_after config (places_after config ps moment xs) moment ys
-places-append config ps moment [] ys = refl
-places-append config ps moment (x ∷ xs) ys = places-append config (place config ps (event_at moment x) ∷ ps) moment xs ys
-
-outputs-append : (config : Config) (ps : List Place) (moment : ℕ) (xs ys : List Input)
-    → inputs_outputs config ps moment (xs ++ ys)
-    ≡ inputs_outputs config ps moment xs ++ inputs_outputs config (places_after config ps moment xs) moment ys
-outputs-append config ps moment [] ys = refl
-outputs-append config ps moment (x ∷ xs) ys =
-    let p = place config ps (event_at moment x) in
-    let then = places_after config (p ∷ ps) moment xs in
-    ap (λ outputs. p.outputs ++ outputs) (outputs-append config (p ∷ ps) moment xs ys)
-    ∙ sym (append_assoc p.outputs (inputs_outputs config (p ∷ ps) moment xs) (inputs_outputs config then moment ys))
-
--- one line of all the inputs, and two lines, whatever their numbers
-record InTwo (stage : Stage) (whole one two : Line) : Type 0 where
-  follows : follow (follow stage one) two ≡ follow stage whole
-  outputs : line_outputs stage one ++ line_outputs (follow stage one) two ≡ line_outputs stage whole
-
-event-in-two : (stage : Stage) (n k l moment : ℕ) (xs ys : List Input)
-    → InTwo stage (line.Event n moment (xs ++ ys)) (line.Event k moment xs) (line.Event l moment ys)
-event-in-two (Settings None) n k l moment xs ys = record { follows = refl; outputs = refl }
-event-in-two (Settings (Some config)) n k l moment xs ys = record {
-  follows = ap (λ ps. Running config ps) (sym (places-append config [] moment xs ys));
-  outputs = sym (outputs-append config [] moment xs ys);
-}
-event-in-two (Running config ps) n k l moment xs ys = record {
-  follows = ap (λ qs. Running config qs) (sym (places-append config ps moment xs ys));
-  outputs = sym (outputs-append config ps moment xs ys);
-}
-
 -- ---- places that differ in how many lines came before
 
 abbrev at_lines : At → ℕ → At
@@ -73,277 +37,241 @@ at_lines at n = record at { lines = n }
 abbrev IsLike : At → At → Type 0
 IsLike at other = (n : ℕ) × (other ≡ at_lines at n)
 
--- what is said is the same but for the line's number
-record SaysLike (l other : Line) : Type 0 where
-  follows : (stage : Stage) → follow stage other ≡ follow stage l
-  outputs : (stage : Stage) → line_outputs stage other ≡ line_outputs stage l
+-- ---- what follows the lines
 
-agent-like : (n k : ℕ) (config : Config) → SaysLike (line.Agent n config) (line.Agent k config)
-agent-like n k config = record { follows = follows; outputs = outputs }
-  where
-    follows : (stage : Stage) → follow stage (line.Agent k config) ≡ follow stage (line.Agent n config)
-    follows (Settings told) = refl
-    follows (Running other ps) = refl
+module _ {S X : Type 0} (follow : S → Line → S) (gives : S → Line → List X) where
+  -- what is said is the same but for the line's number
+  pub record SaysLike (l other : Line) : Type 0 where
+    pub follows : (stage : S) → follow stage other ≡ follow stage l
+    pub outputs : (stage : S) → gives stage other ≡ gives stage l
 
-    outputs : (stage : Stage) → line_outputs stage (line.Agent k config) ≡ line_outputs stage (line.Agent n config)
-    outputs (Settings told) = refl
-    outputs (Running other ps) = refl
+  -- the numbers of lines change nothing
+  pub record IsNumberless : Type 0 where
+    pub agent : (n k : ℕ) (config : Config) → SaysLike (line.Agent n config) (line.Agent k config)
+    pub client : (n k : ℕ) (client : Client) → SaysLike (line.Client n client) (line.Client k client)
+    pub event : (n k moment : ℕ) (inputs : List Input) → SaysLike (line.Event n moment inputs) (line.Event k moment inputs)
+    pub control : (n k moment address port : ℕ) (octets : List ℕ)
+        → SaysLike (line.Control n moment address port octets) (line.Control k moment address port octets)
 
-client-like : (n k : ℕ) (client : Client) → SaysLike (line.Client n client) (line.Client k client)
-client-like n k client = record { follows = follows; outputs = outputs }
-  where
-    follows : (stage : Stage) → follow stage (line.Client k client) ≡ follow stage (line.Client n client)
-    follows (Settings told) = refl
-    follows (Running other ps) = refl
+  -- one line of all the inputs, and two lines, whatever their numbers
+  pub record InTwo (stage : S) (whole one two : Line) : Type 0 where
+    pub follows : follow (follow stage one) two ≡ follow stage whole
+    pub outputs : gives stage one ++ gives (follow stage one) two ≡ gives stage whole
 
-    outputs : (stage : Stage) → line_outputs stage (line.Client k client) ≡ line_outputs stage (line.Client n client)
-    outputs (Settings told) = refl
-    outputs (Running other ps) = refl
+module _ {S X : Type 0} (follow : S → Line → S) (gives : S → Line → List X) (numberless : IsNumberless follow gives)
+    (in-two : (stage : S) (n k l moment : ℕ) (xs ys : List Input)
+    → InTwo follow gives stage (line.Event n moment (xs ++ ys)) (line.Event k moment xs) (line.Event l moment ys)) where
+  abbrev StepsLike : Step → Step → Type 0
+  StepsLike (Ok step) (Ok other) = SaysLike follow gives step.0 other.0 × IsLike step.1 other.1
+  StepsLike (Ok step) (Err reason) = ⊥
+  StepsLike (Err reason) (Ok step) = ⊥
+  StepsLike (Err reason) (Err other) = Unit {0}
 
-event-like : (n k moment : ℕ) (inputs : List Input) → SaysLike (line.Event n moment inputs) (line.Event k moment inputs)
-event-like n k moment inputs = record { follows = follows; outputs = outputs }
-  where
-    follows : (stage : Stage) → follow stage (line.Event k moment inputs) ≡ follow stage (line.Event n moment inputs)
-    follows (Settings None) = refl
-    follows (Settings (Some config)) = refl
-    follows (Running config ps) = refl
+  choice-like : (b : Bool) (one two one' two' : Step) → StepsLike one one' → StepsLike two two'
+      → StepsLike (cond b one two) (cond b one' two')
+  choice-like true one two one' two' left right = left
+  choice-like false one two one' two' left right = right
 
-    outputs : (stage : Stage) → line_outputs stage (line.Event k moment inputs) ≡ line_outputs stage (line.Event n moment inputs)
-    outputs (Settings None) = refl
-    outputs (Settings (Some config)) = refl
-    outputs (Running config ps) = refl
+  kind-like : (at : At) (n : ℕ) (found : Kind) (words : List (List ℕ))
+      → StepsLike (kind_step at found words) (kind_step (at_lines at n) found words)
+  kind-like at n kind.Agent words = by (settings_of words)
+    where
+      by : (read : Option Config) → StepsLike (agent_step at read) (agent_step (at_lines at n) read)
+      by None = tt
+      by (Some config) = (numberless.agent (one_more at.lines) (one_more n) config, (one_more n, refl))
+  kind-like at n kind.Client words = by (client_of words)
+    where
+      by : (read : Option Client) → StepsLike (client_step at read) (client_step (at_lines at n) read)
+      by None = tt
+      by (Some client) =
+          choice-like (list_any (λ a. eqb a client.address) at.addresses) _ _ _ _ tt
+          (numberless.client (one_more at.lines) (one_more n) client, (one_more n, refl))
+  kind-like at n (kind.Event named) words = by (event_of named words)
+    where
+      by : (read : Option (ℕ × Happening)) → StepsLike (event_step at read) (event_step (at_lines at n) read)
+      by None = tt
+      by (Some told) = (numberless.event (one_more at.lines) (one_more n) told.0 _, (one_more n, refl))
+  kind-like at n kind.Control words = by (control_of words)
+    where
+      by : (read : Option Control) → StepsLike (control_step at read) (control_step (at_lines at n) read)
+      by None = tt
+      by (Some told) =
+          (numberless.control (one_more at.lines) (one_more n) told.moment told.address told.port told.octets, (one_more n, refl))
 
-control-like : (n k moment address port : ℕ) (octets : List ℕ)
-    → SaysLike (line.Control n moment address port octets) (line.Control k moment address port octets)
-control-like n k moment address port octets = record { follows = follows; outputs = outputs }
-  where
-    follows : (stage : Stage)
-        → follow stage (line.Control k moment address port octets) ≡ follow stage (line.Control n moment address port octets)
-    follows (Settings None) = refl
-    follows (Settings (Some config)) = refl
-    follows (Running config ps) = refl
+  words-like : (at : At) (n : ℕ) (found : Option Kind) (words : List (List ℕ))
+      → StepsLike (words_step at found words) (words_step (at_lines at n) found words)
+  words-like at n None words = tt
+  words-like at n (Some found) words =
+      choice-like (may_stand at.controls at.section (length at.addresses) found) _ _ _ _ (kind-like at n found words) tt
 
-    outputs : (stage : Stage)
-        → line_outputs stage (line.Control k moment address port octets) ≡ line_outputs stage (line.Control n moment address port octets)
-    outputs (Settings told) = refl
-    outputs (Running config ps) = refl
+  line-like : (at : At) (n : ℕ) (octets : List ℕ) → StepsLike (read_line at octets) (read_line (at_lines at n) octets)
+  line-like at n octets =
+      choice-like (nat_lt 140000 (length octets)) _ _ _ _ tt (words-like at n (kind_of (words_of octets)) (words_of octets))
 
-abbrev StepsLike : Step → Step → Type 0
-StepsLike (Ok step) (Ok other) = SaysLike step.0 other.0 × IsLike step.1 other.1
-StepsLike (Ok step) (Err reason) = ⊥
-StepsLike (Err reason) (Ok step) = ⊥
-StepsLike (Err reason) (Err other) = Unit {0}
+  -- ---- what two transcripts say
 
-choice-like : (b : Bool) (one two one' two' : Step) → StepsLike one one' → StepsLike two two'
-    → StepsLike (cond b one two) (cond b one' two')
-choice-like true one two one' two' left right = left
-choice-like false one two one' two' left right = right
+  pub record AllSame (said other : Said) : Type 0 where
+    pub sound : other.stop ≡ None
+    pub stage : (s : S) → after_lines follow s other.lines ≡ after_lines follow s said.lines
+    pub outputs : (s : S) → given_by follow gives s other.lines ≡ given_by follow gives s said.lines
 
-kind-like : (at : At) (n : ℕ) (found : Kind) (words : List (List ℕ))
-    → StepsLike (kind_step at found words) (kind_step (at_lines at n) found words)
-kind-like at n kind.Agent words = by (settings_of words)
-  where
-    by : (read : Option Config) → StepsLike (agent_step at read) (agent_step (at_lines at n) read)
-    by None = tt
-    by (Some config) = (agent-like (one_more at.lines) (one_more n) config, (one_more n, refl))
-kind-like at n kind.Client words = by (client_of words)
-  where
-    by : (read : Option Client) → StepsLike (client_step at read) (client_step (at_lines at n) read)
-    by None = tt
-    by (Some client) =
-        choice-like (list_any (λ a. eqb a client.address) at.addresses) _ _ _ _ tt
-        (client-like (one_more at.lines) (one_more n) client, (one_more n, refl))
-kind-like at n (kind.Event named) words = by (event_of named words)
-  where
-    by : (read : Option (ℕ × Happening)) → StepsLike (event_step at read) (event_step (at_lines at n) read)
-    by None = tt
-    by (Some told) = (event-like (one_more at.lines) (one_more n) told.0 _, (one_more n, refl))
-kind-like at n kind.Control words = by (control_of words)
-  where
-    by : (read : Option Control) → StepsLike (control_step at read) (control_step (at_lines at n) read)
-    by None = tt
-    by (Some told) =
-        (control-like (one_more at.lines) (one_more n) told.moment told.address told.port told.octets, (one_more n, refl))
+  -- if no line of the one is bad
+  abbrev pub IfSound : Said → Said → Type 0
+  IfSound said other = said.stop ≡ None → AllSame said other
 
-words-like : (at : At) (n : ℕ) (found : Option Kind) (words : List (List ℕ))
-    → StepsLike (words_step at found words) (words_step (at_lines at n) found words)
-words-like at n None words = tt
-words-like at n (Some found) words =
-    choice-like (may_stand at.controls at.section (length at.addresses) found) _ _ _ _ (kind-like at n found words) tt
+  said-like : (at place : At) (step other : Step) (f g : At → Said) → StepsLike step other → ((a b : At) → IsLike a b → IfSound (f a) (g b))
+      → IfSound (said_on at step f) (said_on place other g)
+  said-like at place (Ok step) (Ok other) f g like on sound =
+      let same = on step.1 other.1 like.1 sound in
+      record {
+        sound = same.sound;
+        stage = λ s. ap (λ t. after_lines follow t (g other.1).lines) (like.0.follows s) ∙ same.stage (follow s step.0);
+        outputs = λ s.
+            ap (λ outputs. outputs ++ given_by follow gives (follow s other.0) (g other.1).lines) (like.0.outputs s)
+            ∙ ap (λ t. gives s step.0 ++ given_by follow gives t (g other.1).lines) (like.0.follows s)
+            ∙ ap (λ outputs. gives s step.0 ++ outputs) (same.outputs (follow s step.0));
+      }
+  said-like at place (Ok step) (Err reason) f g like on sound = absurd like
+  said-like at place (Err reason) (Ok step) f g like on sound = absurd like
+  said-like at place (Err reason) (Err other) f g like on sound = cc
 
-line-like : (at : At) (n : ℕ) (octets : List ℕ) → StepsLike (read_line at octets) (read_line (at_lines at n) octets)
-line-like at n octets =
-    choice-like (nat_lt 140000 (length octets)) _ _ _ _ tt (words-like at n (kind_of (words_of octets)) (words_of octets))
+  lines-like : (at other : At) (lines : List (List ℕ)) → IsLike at other → IfSound (read_from at lines) (read_from other lines)
+  lines-like at other [] like = λ sound. record { sound = refl; stage = λ s. refl; outputs = λ s. refl }
+  lines-like at other (octets ∷ lines) (n, is) =
+      subst (λ (o : At). IfSound (read_from at (octets ∷ lines)) (read_from o (octets ∷ lines))) (sym is)
+      (said-like at (at_lines at n) (read_line at octets) (read_line (at_lines at n) octets) _ _ (line-like at n octets)
+      (λ a b like. lines-like a b lines like))
 
--- ---- what two transcripts say
+  -- ---- a `link` line
 
-record AllSame (said other : Said) : Type 0 where
-  sound : other.stop ≡ None
-  stage : (s : Stage) → stage_after s other.lines ≡ stage_after s said.lines
-  outputs : (s : Stage) → outputs_of_lines s other.lines ≡ outputs_of_lines s said.lines
+  abbrev link_words : List ℕ → List ℕ → List (List ℕ)
+  link_words moment hex = moment ∷ codes "link" ∷ hex ∷ []
 
--- if no line of the one is bad
-abbrev IfSound : Said → Said → Type 0
-IfSound said other = said.stop ≡ None → AllSame said other
+  length-link : (moment hex : List ℕ) → length (link_line moment hex) ≡ length moment + 6 + length hex
+  length-link moment hex = omega (arith, length-append moment (32 ∷ codes "link" ++ 32 ∷ hex))
 
-said-like : (at place : At) (step other : Step) (f g : At → Said) → StepsLike step other → ((a b : At) → IsLike a b → IfSound (f a) (g b))
-    → IfSound (said_on at step f) (said_on place other g)
-said-like at place (Ok step) (Ok other) f g like on sound =
-    let same = on step.1 other.1 like.1 sound in
-    record {
-      sound = same.sound;
-      stage = λ s. ap (λ t. stage_after t (g other.1).lines) (like.0.follows s) ∙ same.stage (follow s step.0);
-      outputs = λ s.
-          ap (λ outputs. outputs ++ outputs_of_lines (follow s other.0) (g other.1).lines) (like.0.outputs s)
-          ∙ ap (λ t. line_outputs s step.0 ++ outputs_of_lines t (g other.1).lines) (like.0.follows s)
-          ∙ ap (λ outputs. line_outputs s step.0 ++ outputs) (same.outputs (follow s step.0));
-    }
-said-like at place (Ok step) (Err reason) f g like on sound = absurd like
-said-like at place (Err reason) (Ok step) f g like on sound = absurd like
-said-like at place (Err reason) (Err other) f g like on sound = cc
+  -- the first of some lines, none of them being bad
+  first-sound : (at : At) (step : Step) (f : At → Said) → (said_on at step f).stop ≡ None → (p : Line × At) × (step ≡ Ok p)
+  first-sound at (Ok p) f sound = (p, refl)
+  first-sound at (Err reason) f sound = cc
 
-lines-like : (at other : At) (lines : List (List ℕ)) → IsLike at other → IfSound (read_from at lines) (read_from other lines)
-lines-like at other [] like = λ sound. record { sound = refl; stage = λ s. refl; outputs = λ s. refl }
-lines-like at other (octets ∷ lines) (n, is) =
-    subst (λ (o : At). IfSound (read_from at (octets ∷ lines)) (read_from o (octets ∷ lines))) (sym is)
-    (said-like at (at_lines at n) (read_line at octets) (read_line (at_lines at n) octets) _ _ (line-like at n octets)
-    (λ a b like. lines-like a b lines like))
+  -- what it says, and where the next one stands
+  abbrev said_there : At → ℕ → List ℕ → Line
+  said_there at m octets = line.Event (one_more at.lines) m (inputs_of at.stream (happening.Link octets))
 
--- ---- a `link` line
+  abbrev next_there : At → List ℕ → At
+  next_there at octets = event_next at (happening.Link octets)
 
-abbrev link_words : List ℕ → List ℕ → List (List ℕ)
-link_words moment hex = moment ∷ codes "link" ∷ hex ∷ []
+  -- and what others say behind it
+  abbrev said_with : At → ℕ → List ℕ → (At → Said) → Said
+  said_with at m octets others = said_on at (Ok (said_there at m octets, next_there at octets)) others
 
-length-link : (moment hex : List ℕ) → length (link_line moment hex) ≡ length moment + 6 + length hex
-length-link moment hex = omega (arith, length-append moment (32 ∷ codes "link" ++ 32 ∷ hex))
+  -- a place behind these octets
+  abbrev at_stream : At → List ℕ → ℕ → At
+  at_stream at stream n = record { controls = at.controls; section = Events; addresses = at.addresses; stream = stream; lines = n }
 
--- the first of some lines, none of them being bad
-first-sound : (at : At) (step : Step) (f : At → Said) → (said_on at step f).stop ≡ None → (p : Line × At) × (step ≡ Ok p)
-first-sound at (Ok p) f sound = (p, refl)
-first-sound at (Err reason) f sound = cc
+  -- it isn't too long, and the settings are over
+  record Stands (at : At) (octets : List ℕ) : Type 0 where
+    short : length octets ≤ 140000
+    further : at.section ≢ Start
 
--- what it says, and where the next one stands
-abbrev said_there : At → ℕ → List ℕ → Line
-said_there at m octets = line.Event (one_more at.lines) m (inputs_of at.stream (happening.Link octets))
+  module _ (moment : List ℕ) (m : ℕ) (numbered : IsNumber 18446744073709551615 moment m) where
+    reads : (at : At) (hex octets : List ℕ) → IsHex hex octets → Stands at (link_line moment hex)
+        → read_line at (link_line moment hex) ≡ Ok (said_there at m octets, next_there at octets)
+    reads at hex octets is stands =
+        event-reads at m (happening.Link octets) moment (codes "link" ∷ hex ∷ []) numbered
+        (hex-behind (codes "link" ∷ []) hex octets refl is) (hex, refl, is) stands.further stands.short
 
-abbrev next_there : At → List ℕ → At
-next_there at octets = event_next at (happening.Link octets)
+    further-by : (at : At) (words : List (List ℕ)) (hex : List ℕ) (said : Line) (next : At) → words ≡ link_words moment hex
+        → SaysWords at words said next → at.section ≢ Start
+    further-by at words hex (line.Agent number config) next same says = absurd cc (sym same ∙ says.is.spelled)
+    further-by at words hex (line.Client number client) next same says = absurd cc (sym same ∙ says.is.spelled)
+    further-by at words hex (line.Event number moment inputs) next same says = says.further
+    further-by at words hex (line.Control number moment address port octets) next same says = says.further
 
--- and what others say behind it
-abbrev said_with : At → ℕ → List ℕ → (At → Said) → Said
-said_with at m octets others = said_on at (Ok (said_there at m octets, next_there at octets)) others
+    stands-by : (at : At) (hex octets : List ℕ) (step : Line × At) → IsHex hex octets → read_line at (link_line moment hex) ≡ Ok step
+        → Stands at (link_line moment hex)
+    stands-by at hex octets step is e =
+        let says = line-says at (link_line moment hex) step.0 step.1 e in
+        let is_line = event-is-line m moment (codes "link" ∷ hex ∷ []) numbered (hex-behind (codes "link" ∷ []) hex octets refl is) in
+        let same : says.words ≡ link_words moment hex = sym (line-read _ says.words says.is_line) ∙ line-read _ _ is_line in
+        record { short = says.short; further = further-by at says.words hex step.0 step.1 same says.says }
 
--- a place behind these octets
-abbrev at_stream : At → List ℕ → ℕ → At
-at_stream at stream n = record { controls = at.controls; section = Events; addresses = at.addresses; stream = stream; lines = n }
+    -- ---- a `link` line that is cut
 
--- it isn't too long, and the settings are over
-record Stands (at : At) (octets : List ℕ) : Type 0 where
-  short : length octets ≤ 140000
-  further : at.section ≢ Start
+    module _ (a b x y : List ℕ) (is-a : IsHex a x) (is-b : IsHex b y) (some-x : 0 < length x) (some-y : 0 < length y) where
+      is-both : IsHex (a ++ b) (x ++ y)
+      is-both = hex-joined a b x y some-x some-y is-a is-b
 
-module _ (moment : List ℕ) (m : ℕ) (numbered : IsNumber 18446744073709551615 moment m) where
-  reads : (at : At) (hex octets : List ℕ) → IsHex hex octets → Stands at (link_line moment hex)
-      → read_line at (link_line moment hex) ≡ Ok (said_there at m octets, next_there at octets)
-  reads at hex octets is stands =
-      event-reads at m (happening.Link octets) moment (codes "link" ∷ hex ∷ []) numbered
-      (hex-behind (codes "link" ∷ []) hex octets refl is) (hex, refl, is) stands.further stands.short
+      cut-followed : (at : At) (stage : S)
+          → InTwo follow gives stage (said_there at m (x ++ y)) (said_there at m x) (said_there (next_there at x) m y)
+      cut-followed at stage =
+          let n = one_more at.lines in
+          let front = link_inputs at.stream (at.stream ++ x) in
+          subst (λ (inputs : List Input). InTwo follow gives stage (line.Event n m inputs) (said_there at m x) (said_there (next_there at x) m y))
+          (sym (link-cut at.stream x y))
+          (in-two stage n n (one_more n) m front (link_inputs (at.stream ++ x) ((at.stream ++ x) ++ y)))
 
-  further-by : (at : At) (words : List (List ℕ)) (hex : List ℕ) (said : Line) (next : At) → words ≡ link_words moment hex
-      → SaysWords at words said next → at.section ≢ Start
-  further-by at words hex (line.Agent number config) next same says = absurd cc (sym same ∙ says.is.spelled)
-  further-by at words hex (line.Client number client) next same says = absurd cc (sym same ∙ says.is.spelled)
-  further-by at words hex (line.Event number moment inputs) next same says = says.further
-  further-by at words hex (line.Control number moment address port octets) next same says = says.further
+      next-like : (at : At) → IsLike (next_there at (x ++ y)) (next_there (next_there at x) y)
+      next-like at =
+          let n = one_more (one_more at.lines) in
+          (n, ap (λ stream. at_stream at stream n) (append_assoc at.stream x y))
 
-  stands-by : (at : At) (hex octets : List ℕ) (step : Line × At) → IsHex hex octets → read_line at (link_line moment hex) ≡ Ok step
-      → Stands at (link_line moment hex)
-  stands-by at hex octets step is e =
-      let says = line-says at (link_line moment hex) step.0 step.1 e in
-      let is_line = event-is-line m moment (codes "link" ∷ hex ∷ []) numbered (hex-behind (codes "link" ∷ []) hex octets refl is) in
-      let same : says.words ≡ link_words moment hex = sym (line-read _ says.words says.is_line) ∙ line-read _ _ is_line in
-      record { short = says.short; further = further-by at says.words hex step.0 step.1 same says.says }
+      -- the lines behind them
+      lines-behind : (at : At) (after : List (List ℕ)) → (read_from (next_there at (x ++ y)) after).stop ≡ None
+          → AllSame (said_with at m (x ++ y) (λ next. read_from next after))
+          (said_with at m x (λ next. said_with next m y (λ last. read_from last after)))
+      lines-behind at after sound =
+          let same = lines-like (next_there at (x ++ y)) (next_there (next_there at x) y) after (next-like at) sound in
+          let whole = said_there at m (x ++ y) in
+          let one = said_there at m x in
+          let two = said_there (next_there at x) m y in
+          let then = λ (s : S). follow (follow s one) two in
+          let lines = (read_from (next_there (next_there at x) y) after).lines in
+          record {
+            sound = same.sound;
+            stage = λ s. ap (λ t. after_lines follow t lines) (cut-followed at s).follows ∙ same.stage (follow s whole);
+            outputs = λ s.
+                sym (append_assoc (gives s one) (gives (follow s one) two) (given_by follow gives (then s) lines))
+                ∙ ap (λ outputs. outputs ++ given_by follow gives (then s) lines) (cut-followed at s).outputs
+                ∙ ap (λ t. gives s whole ++ given_by follow gives t lines) (cut-followed at s).follows
+                ∙ ap (λ outputs. gives s whole ++ outputs) (same.outputs (follow s whole));
+          }
 
-  -- ---- a `link` line that is cut
+      cut-here : (at : At) (after : List (List ℕ))
+          → IfSound (read_from at (link_line moment (a ++ b) ∷ after)) (read_from at (link_line moment a ∷ link_line moment b ∷ after))
+      cut-here at after sound =
+          let (step, is) = first-sound at (read_line at (link_line moment (a ++ b))) (λ next. read_from next after) sound in
+          let stands = stands-by at (a ++ b) (x ++ y) step is-both is in
+          let whole = reads at (a ++ b) (x ++ y) is-both stands in
+          let one = reads at a x is-a (record {
+            short = omega (arith, stands.short, length-link moment (a ++ b), length-link moment a, length-append a b);
+            further = stands.further;
+          }) in
+          let two = reads (next_there at x) b y is-b (record {
+            short = omega (arith, stands.short, length-link moment (a ++ b), length-link moment b, length-append a b);
+            further = λ e. cc;
+          }) in
+          let said : read_from at (link_line moment (a ++ b) ∷ after) ≡ said_with at m (x ++ y) (λ next. read_from next after) =
+          ap (λ (s : Step). said_on at s (λ next. read_from next after)) whole in
+          let other : read_from at (link_line moment a ∷ link_line moment b ∷ after)
+          ≡ said_with at m x (λ next. said_with next m y (λ last. read_from last after)) =
+          ap (λ (s : Step). said_on at s (λ next. read_from next (link_line moment b ∷ after))) one
+          ∙ ap (λ (s : Step). said_with at m x (λ next. said_on next s (λ last. read_from last after))) two in
+          rw (said, other) (lines-behind at after (sym (ap (λ (s : Said). s.stop) said) ∙ sound))
 
-  module _ (a b x y : List ℕ) (is-a : IsHex a x) (is-b : IsHex b y) (some-x : 0 < length x) (some-y : 0 < length y) where
-    is-both : IsHex (a ++ b) (x ++ y)
-    is-both = hex-joined a b x y some-x some-y is-a is-b
-
-    cut-followed : (at : At) (stage : Stage)
-        → InTwo stage (said_there at m (x ++ y)) (said_there at m x) (said_there (next_there at x) m y)
-    cut-followed at stage =
-        let n = one_more at.lines in
-        let front = link_inputs at.stream (at.stream ++ x) in
-        subst (λ (inputs : List Input). InTwo stage (line.Event n m inputs) (said_there at m x) (said_there (next_there at x) m y))
-        (sym (link-cut at.stream x y))
-        (event-in-two stage n n (one_more n) m front (link_inputs (at.stream ++ x) ((at.stream ++ x) ++ y)))
-
-    next-like : (at : At) → IsLike (next_there at (x ++ y)) (next_there (next_there at x) y)
-    next-like at =
-        let n = one_more (one_more at.lines) in
-        (n, ap (λ stream. at_stream at stream n) (append_assoc at.stream x y))
-
-    -- the lines behind them
-    lines-behind : (at : At) (after : List (List ℕ)) → (read_from (next_there at (x ++ y)) after).stop ≡ None
-        → AllSame (said_with at m (x ++ y) (λ next. read_from next after))
-        (said_with at m x (λ next. said_with next m y (λ last. read_from last after)))
-    lines-behind at after sound =
-        let same = lines-like (next_there at (x ++ y)) (next_there (next_there at x) y) after (next-like at) sound in
-        let whole = said_there at m (x ++ y) in
-        let one = said_there at m x in
-        let two = said_there (next_there at x) m y in
-        let then = λ (s : Stage). follow (follow s one) two in
-        let lines = (read_from (next_there (next_there at x) y) after).lines in
-        record {
-          sound = same.sound;
-          stage = λ s. ap (λ t. stage_after t lines) (cut-followed at s).follows ∙ same.stage (follow s whole);
-          outputs = λ s.
-              sym (append_assoc (line_outputs s one) (line_outputs (follow s one) two) (outputs_of_lines (then s) lines))
-              ∙ ap (λ outputs. outputs ++ outputs_of_lines (then s) lines) (cut-followed at s).outputs
-              ∙ ap (λ t. line_outputs s whole ++ outputs_of_lines t lines) (cut-followed at s).follows
-              ∙ ap (λ outputs. line_outputs s whole ++ outputs) (same.outputs (follow s whole));
-        }
-
-    cut-here : (at : At) (after : List (List ℕ))
-        → IfSound (read_from at (link_line moment (a ++ b) ∷ after)) (read_from at (link_line moment a ∷ link_line moment b ∷ after))
-    cut-here at after sound =
-        let (step, is) = first-sound at (read_line at (link_line moment (a ++ b))) (λ next. read_from next after) sound in
-        let stands = stands-by at (a ++ b) (x ++ y) step is-both is in
-        let whole = reads at (a ++ b) (x ++ y) is-both stands in
-        let one = reads at a x is-a (record {
-          short = omega (arith, stands.short, length-link moment (a ++ b), length-link moment a, length-append a b);
-          further = stands.further;
-        }) in
-        let two = reads (next_there at x) b y is-b (record {
-          short = omega (arith, stands.short, length-link moment (a ++ b), length-link moment b, length-append a b);
-          further = λ e. cc;
-        }) in
-        let said : read_from at (link_line moment (a ++ b) ∷ after) ≡ said_with at m (x ++ y) (λ next. read_from next after) =
-        ap (λ (s : Step). said_on at s (λ next. read_from next after)) whole in
-        let other : read_from at (link_line moment a ∷ link_line moment b ∷ after)
-        ≡ said_with at m x (λ next. said_with next m y (λ last. read_from last after)) =
-        ap (λ (s : Step). said_on at s (λ next. read_from next (link_line moment b ∷ after))) one
-        ∙ ap (λ (s : Step). said_with at m x (λ next. said_on next s (λ last. read_from last after))) two in
-        rw (said, other) (lines-behind at after (sym (ap (λ (s : Said). s.stop) said) ∙ sound))
-
-    cut-from : (at : At) (before after : List (List ℕ))
-        → IfSound (read_from at (before ++ link_line moment (a ++ b) ∷ after))
-        (read_from at (before ++ link_line moment a ∷ link_line moment b ∷ after))
-    cut-from at [] after = cut-here at after
-    cut-from at (octets ∷ before) after = by (read_line at octets) _ _ (λ next. cut-from next before after)
-      where
-        by : (step : Step) (f g : At → Said) → ((next : At) → IfSound (f next) (g next)) → IfSound (said_on at step f) (said_on at step g)
-        by (Err reason) f g on sound = cc
-        by (Ok step) f g on sound =
-            let same = on step.1 sound in
-            record {
-              sound = same.sound;
-              stage = λ s. same.stage (follow s step.0);
-              outputs = λ s. ap (λ outputs. line_outputs s step.0 ++ outputs) (same.outputs (follow s step.0));
-            }
-
-pub link-lines-cut : LinkLinesCanBeCut
-link-lines-cut controls before after moment a b x y m numbered is-a is-b some-x some-y sound =
-    let same = cut-from moment m numbered a b x y is-a is-b some-x some-y (beginning controls) before after sound in
-    record { sound = same.sound; stage = same.stage first; outputs = same.outputs first }
+      pub cut-from : (at : At) (before after : List (List ℕ))
+          → IfSound (read_from at (before ++ link_line moment (a ++ b) ∷ after))
+          (read_from at (before ++ link_line moment a ∷ link_line moment b ∷ after))
+      cut-from at [] after = cut-here at after
+      cut-from at (octets ∷ before) after = by (read_line at octets) _ _ (λ next. cut-from next before after)
+        where
+          by : (step : Step) (f g : At → Said) → ((next : At) → IfSound (f next) (g next)) → IfSound (said_on at step f) (said_on at step g)
+          by (Err reason) f g on sound = cc
+          by (Ok step) f g on sound =
+              let same = on step.1 sound in
+              record {
+                sound = same.sound;
+                stage = λ s. same.stage (follow s step.0);
+                outputs = λ s. ap (λ outputs. gives s step.0 ++ outputs) (same.outputs (follow s step.0));
+              }

@@ -1,4 +1,3 @@
-pub mod CutExamples
 pub mod CutLemmas
 pub mod CutStreams
 pub mod Examples

@@ -80,6 +80,10 @@ answer_octets i r = message_text (answer_header i) (avps_text (answer_avps i r))
 abbrev pub line_of : List (List ℕ) → List ℕ
 line_of words = join_with_byte 32 words
 
+-- MOMENT link HEX
+abbrev pub link_line : List ℕ → List ℕ → List ℕ
+link_line moment hex = line_of (moment ∷ codes "link" ∷ hex ∷ [])
+
 -- one login comes every 20 milliseconds
 abbrev pub moment : ℕ → ℕ
 moment i = 20 * i

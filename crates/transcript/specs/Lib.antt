@@ -1,4 +1,3 @@
-pub mod Cuts
 pub mod Generating
 pub mod Generator
 pub mod GeneratorLaws
@@ -9,11 +8,11 @@ pub mod Lines
 pub mod Positions
 pub mod Reading
 pub mod Reads
-pub mod Run
 pub mod SettingsText
 pub mod Show
 pub mod Streams
 pub mod Taking
 pub mod Text
+pub mod Told
 pub mod Views
 pub mod Words

@@ -1,9 +1,8 @@
 //! Laws of transcripts, for all lines.
 
-ghost use Rattle.transcript.specs.Cuts.{LinkLinesCanBeCut};
 ghost use Rattle.transcript.specs.GeneratorLaws.{GeneratedLinesAreSound};
 ghost use Rattle.transcript.specs.Grammar.{LinesHaveAGrammar};
-ghost use Rattle.transcript.specs.Run.{LinesCanFollow};
+ghost use Rattle.transcript.specs.Told.{LinesCanFollow};
 
 /// No line of a generated transcript is bad.
 pub fn generated_lines_are_sound()
@@ -20,9 +19,4 @@ pub fn lines_can_follow()
 /// The reader accepts exactly the lines of the grammar, and reads of each what it says.
 pub fn lines_have_a_grammar()
     ensures { LinesHaveAGrammar }
-{}
-
-/// A `link` line may be cut in two of the same moment: the outputs are the same, and line numbers alone differ.
-pub fn link_lines_can_be_cut()
-    ensures { LinkLinesCanBeCut }
 {}

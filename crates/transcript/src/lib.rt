@@ -25,9 +25,7 @@ mod words;
 
 pub use generate_fault::GenerateFault;
 pub use generator::{Generator, generate};
-pub use laws::{
-    generated_lines_are_sound, lines_can_follow, lines_have_a_grammar, link_lines_can_be_cut,
-};
+pub use laws::{generated_lines_are_sound, lines_can_follow, lines_have_a_grammar};
 pub use line::{Inputs, Line};
 pub use line_fault::LineFault;
 pub use lines::Lines;

@@ -64,6 +64,13 @@ impl Inputs {
     {
         self.inputs.as_slice()
     }
+
+    /// The inputs in order, each by value.
+    pub fn into_vec(self) -> Vec<Input>
+        ensures { result.items ≡ self }
+    {
+        self.inputs
+    }
 }
 
 /// A line of a transcript; `number` counts from 1.

@@ -1,0 +1,5 @@
+pub mod Cuts
+pub mod Measured
+pub mod Replay
+pub mod Run
+pub mod Session

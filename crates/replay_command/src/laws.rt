@@ -1,0 +1,8 @@
+//! Laws of transcripts and of what they print, for all lines.
+
+ghost use Rattle.replay_command.specs.Cuts.{LinkLinesCanBeCut};
+
+/// A `link` line may be cut in two of the same moment: the outputs are the same, and line numbers alone differ.
+pub fn link_lines_can_be_cut()
+    ensures { LinkLinesCanBeCut }
+{}

@@ -1,0 +1,11 @@
+//! The commands `replay` and `measure`: a transcript goes through the core.
+#![tactic(auto)]
+
+mod laws;
+mod measuring;
+mod replaying;
+mod session;
+
+pub use laws::link_lines_can_be_cut;
+pub use measuring::measure;
+pub use replaying::replay;

@@ -1,5 +1,0 @@
-use Rattle.transcript.proofs.CutLemmas.{link-lines-cut}
-use Rattle.transcript.proofs.laws.link_lines_can_be_cut.Goals as goal
-
-pub returns : goal.returns
-returns c = link-lines-cut
