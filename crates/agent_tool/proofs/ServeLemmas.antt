@@ -1,10 +1,8 @@
 -- How `serve` ends.
-use Rattle.std.proofs.Common.{◌≡◌, ℕ, ◌+◌, ◌<◌, ◌≤◌, ◌⊎◌, inl, inr, List, [], ◌∷◌, ◌++◌, length, Option, Some, None, IfSome, IfNone, Ok, refl, sym, ap, ◌∙◌, subst, append_assoc, arith}
-use Rattle.std.proofs.lemmas.List.{append-nil, length-append}
+use Rattle.std.proofs.Common.{◌≡◌, ℕ, ◌⊎◌, inl, inr, List, [], ◌∷◌, ◌++◌, Option, Some, None, IfSome, IfNone, refl, sym, ap, ◌∙◌, subst}
+use Rattle.std.proofs.lemmas.List.{append-nil}
 use Rattle.wire_core.specs.Counts.{Rose}
-use Rattle.wire_core.proofs.SourceLaws.{Consumes-told}
 use Rattle.agent_settings.specs.declared.config.Config.{Config}
-use Rattle.agent_config.specs.Settings.{settings_in}
 use Rattle.agent_settings.specs.Config.{InLimits, are_settings_in_limits}
 use Rattle.peer_machine.specs.declared.LinkCause.{LinkCause}
 use Rattle.agent_status.specs.declared.status.Status.{Status}
@@ -16,11 +14,9 @@ use Rattle.wire_devices.specs.Telling.{Adds}
 use Rattle.agent_server.specs.declared.trail.Trail.{Trail}
 use Rattle.agent_server.specs.Desks.{AreRead, HasRead}
 use Rattle.server_workers.specs.Entries.{RunTurn}
-use Rattle.agent_server.specs.Server.{Because, EndsEarly, Served}
-use Rattle.text_commands.specs.SettingsInput.{SettingsNot, SettingsTaken}
+use Rattle.agent_server.specs.Server.{Because, EndsEarly}
 use Rattle.text_commands.specs.Tasks.{EndsCounts}
-use Rattle.text_commands.specs.WholeInput.{TakesNot, most_whole}
-use Rattle.agent_tool.specs.Serves.{EndedEarly, EndsBefore, IsRunEnd, IsSoundEnd, RanFor, RanServer, Reports, after_failure, with_boot}
+use Rattle.agent_tool.specs.Serves.{IsRunEnd, IsSoundEnd, RanFor, Reports, after_failure}
 
 pub either : {A B C : Type 0} → (A → C) → (B → C) → A ⊎ B → C
 either f g (inl a) = f a

@@ -1,5 +1,5 @@
 -- How the command `serve` ends.
-use Rattle.std.specs.Prelude.{◌≡◌, ℕ, ◌<◌, ◌⊎◌, ◌/◌, ◌%◌, ◌^◌, nat_lt, if◌then◌else◌, List, [], ◌∷◌, ◌++◌, codes, decimal, Option, Some}
+use Rattle.std.specs.Prelude.{◌≡◌, ℕ, ◌⊎◌, ◌/◌, ◌%◌, ◌^◌, nat_lt, if◌then◌else◌, List, [], ◌∷◌, ◌++◌, codes, decimal, Option, Some}
 use Rattle.std.specs.Option.{option_or}
 use Rattle.wire_core.specs.Counts.{Rose}
 use Rattle.wire_core.specs.Sink.{Appends, AppendsPrefix}
@@ -11,7 +11,7 @@ use Rattle.wire_devices.specs.Links.{Inlet, Outlet}
 use Rattle.wire_devices.specs.Sockets.{Socket}
 use Rattle.agent_server.specs.declared.trail.Trail.{Trail}
 use Rattle.agent_server.specs.Server.{EndsEarly, Served, rank}
-use Rattle.text_commands.specs.SettingsInput.{SettingsNot, SettingsTaken}
+use Rattle.text_commands.specs.SettingsInput.{SettingsTaken}
 use Rattle.peer_runs.specs.Until.{until_of}
 
 -- ---- what a run begins from

@@ -1,5 +1,5 @@
 -- The words of commands (profile).
-use Rattle.std.specs.Prelude.{◌≡◌, ℕ, ◌^◌, ◌≤◌, ◌==◌, List, [], ◌∷◌, Option, Some, None, String, string_bytes, bytes_eq, codes, option_map, if◌then◌else◌}
+use Rattle.std.specs.Prelude.{ℕ, ◌^◌, ◌≤◌, ◌==◌, List, [], ◌∷◌, Option, Some, None, String, string_bytes, bytes_eq, codes, option_map, if◌then◌else◌}
 use Rattle.std.specs.declared.alloc.Global.{Global}
 use Rattle.agent_config.specs.Values.{address_in}
 use Rattle.transcript.specs.Words.{◌>>=◌, number_word}
