@@ -16,7 +16,7 @@ use session_carrier::Kind2;
 use translation::{Direction, Faults, is_eap};
 
 /// What a packet has to authenticate by.
-#[derive(Clone, Copy, Debug)]
+#[derive(Clone, Copy)]
 struct Credentials {
     /// Whether there is an EAP-Message.
     eap: bool,
@@ -27,7 +27,7 @@ struct Credentials {
 }
 
 /// What one pass over the attributes finds.
-#[derive(Clone, Copy, Debug)]
+#[derive(Clone, Copy)]
 struct Reading {
     faults: Faults,
     credentials: Credentials,

@@ -25,7 +25,7 @@ fn status_kind(status: u32) -> Result<Kind2, Reason>
 }
 
 /// What one pass over the attributes finds.
-#[derive(Clone, Copy, Debug)]
+#[derive(Clone, Copy)]
 struct Reading {
     faults: Faults,
     /// The number in the only Acct-Status-Type, else 0.

@@ -43,7 +43,7 @@ use wire_core::{NoMemory, Octets};
 const RADIUS: u32 = 1;
 
 /// What stood before an attribute.
-#[derive(Clone, Copy, Debug)]
+#[derive(Clone, Copy)]
 struct Passed {
     seen: Seen,
     /// Octets that went in.

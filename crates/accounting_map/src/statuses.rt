@@ -20,7 +20,7 @@ pub(crate) const ACCOUNTING_ON: u32 = 7;
 pub(crate) const ACCOUNTING_OFF: u32 = 8;
 
 /// The Acct-Status-Types that a pass has found.
-#[derive(Clone, Copy, Debug)]
+#[derive(Clone, Copy)]
 pub(crate) enum Statuses {
     Missing,
     Lone { number: u32 },

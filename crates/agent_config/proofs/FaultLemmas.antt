@@ -7,8 +7,8 @@ use Rattle.toml.specs.Parse.{parse_document}
 use Rattle.toml.specs.Data.{Members, as_table}
 use Rattle.toml.specs.View.{view, items_view}
 use Rattle.toml.specs.declared.value.Value.{Value}
-use Rattle.agent_config.specs.declared.fault.ConfigFault.{ConfigFault}
-use Rattle.agent_config.specs.declared.fault.ConfigFault.TheVariants.{NotToml}
+use Rattle.agent_settings.specs.declared.fault.ConfigFault.{ConfigFault}
+use Rattle.agent_settings.specs.declared.fault.ConfigFault.TheVariants.{NotToml}
 use Rattle.agent_config.specs.Twice.{twice}
 use Rattle.agent_config.specs.Values.{each, tables_of}
 use Rattle.agent_config.specs.Settings.{client_faults, client_keys, client_tables, clients_faults, clients_of, config_of, config_unless, document, faults, first, identity_faults, name_faults, needed, number_faults, or_first, origin_faults, rule_faults, settings_in, settled, tables_in, top_faults, top_keys, unknown}

@@ -6,8 +6,8 @@ use Rattle.std.proofs.lemmas.Bool.{and_from, cases_Bool, leb-true}
 use Rattle.std.proofs.lemmas.List.{length-map}
 use Rattle.toml.specs.Data.{Data, Items, no_items, item, Members, as_str, as_integer, as_array, as_table, get_member}
 use Rattle.agent_settings.specs.declared.config.Config.{Config}
-use Rattle.agent_config.specs.declared.fault.ConfigFault.{ConfigFault}
-use Rattle.agent_config.specs.declared.fault.ConfigFault.TheVariants.{NotToml, BadValue}
+use Rattle.agent_settings.specs.declared.fault.ConfigFault.{ConfigFault}
+use Rattle.agent_settings.specs.declared.fault.ConfigFault.TheVariants.{NotToml, BadValue}
 use Rattle.agent_settings.specs.Config.{are_settings_in_limits, is_between, is_client_in_limits, is_name, InLimits}
 use Rattle.agent_config.specs.Values.{address_of, addresses_of, count, each, name_of, natural, number_of, passed, secret_of, tables_of}
 use Rattle.agent_config.specs.Settings.{at, client_faults, client_of, client_tables, clients_faults, clients_of, config_of, config_unless, document, fault_unless, faults, first, needed, needed_in, or_first, realm_of, retention_of, settled, top_faults, top_of, SettingsAreInLimits}

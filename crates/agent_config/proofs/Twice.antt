@@ -4,7 +4,7 @@ use Rattle.std.proofs.lemmas.Bool.{cases_Bool}
 use Rattle.std.proofs.lemmas.Option.{none-some}
 use Rattle.std.specs.List.{enumerate_from, find, list_any}
 use Rattle.agent_settings.specs.declared.client.Client.{Client}
-use Rattle.agent_config.specs.declared.fault.ConfigFault.TheVariants.{TwiceAddress}
+use Rattle.agent_settings.specs.declared.fault.ConfigFault.TheVariants.{TwiceAddress}
 use Rattle.agent_settings.specs.Config.{are_addresses_distinct, find_address}
 use Rattle.agent_config.specs.Twice.{is_second, twice, DistinctUnlessTwice}
 use Rattle.agent_settings.proofs.Limits.{distinct-push, find_from}

@@ -9,8 +9,8 @@ use Rattle.toml.specs.Data.{Data, Items, Members, no_members, member, get_member
 use Rattle.toml.specs.Parse.{parse_document}
 use Rattle.agent_settings.specs.declared.client.Client.{Client}
 use Rattle.agent_settings.specs.declared.config.Config.{Config}
-use Rattle.agent_config.specs.declared.fault.ConfigFault.{ConfigFault}
-use Rattle.agent_config.specs.declared.fault.ConfigFault.TheVariants.{NotToml, Missing, BadValue}
+use Rattle.agent_settings.specs.declared.fault.ConfigFault.{ConfigFault}
+use Rattle.agent_settings.specs.declared.fault.ConfigFault.TheVariants.{NotToml, Missing, BadValue}
 use Rattle.agent_settings.specs.Config.{InLimits}
 use Rattle.agent_config.specs.Twice.{twice}
 use Rattle.agent_config.specs.Values.{each, name_of, secret_of, address_of, number_of, keys_choice_of, addresses_of, tables_of}

@@ -3,8 +3,8 @@ use Rattle.std.specs.Prelude.{◌≡◌, ℕ, ◌+◌, Bool, ◌==◌, List, tak
 use Rattle.std.specs.List.{list_any, enumerate_from}
 use Rattle.agent_settings.specs.declared.client.Client.{Client}
 use Rattle.agent_settings.specs.Config.{are_addresses_distinct}
-use Rattle.agent_config.specs.declared.fault.ConfigFault.{ConfigFault}
-use Rattle.agent_config.specs.declared.fault.ConfigFault.TheVariants.{TwiceAddress}
+use Rattle.agent_settings.specs.declared.fault.ConfigFault.{ConfigFault}
+use Rattle.agent_settings.specs.declared.fault.ConfigFault.TheVariants.{TwiceAddress}
 
 -- a client at this place, whose address an earlier one has
 abbrev pub is_second : List Client → ℕ × Client → Bool

@@ -2,10 +2,9 @@
 
 ghost use Rattle.std.specs.Prelude.{◌≡◌, ◌≢◌, ◌≤◌, length, None, Some, IfOk, IfErr};
 ghost use Rattle.agent_config.specs.Twice.{twice};
-ghost use Rattle.agent_config.specs.declared.fault.ConfigFault.TheVariants as fault;
+ghost use Rattle.agent_settings.specs.declared.fault.ConfigFault.TheVariants as fault;
 
-use crate::fault::ConfigFault;
-use agent_settings::{Client, Clients};
+use agent_settings::{Client, Clients, ConfigFault};
 use std::alloc::Global;
 
 /// The clients of a `Vec`. `TwiceAddress` where two have one address, with the place, counted

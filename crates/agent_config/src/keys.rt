@@ -7,13 +7,12 @@ ghost use Rattle.toml.specs.Data.{as_bool, as_table, get_member};
 ghost use Rattle.toml.specs.View.{view, items_view, table_view};
 ghost use Rattle.agent_config.specs.Values as values;
 ghost use Rattle.agent_config.specs.Settings.{at, needed, allowed, first_unknown, unknown};
-ghost use Rattle.agent_config.specs.declared.fault.ConfigFault.TheVariants as fault;
+ghost use Rattle.agent_settings.specs.declared.fault.ConfigFault.TheVariants as fault;
 
-use crate::fault::ConfigFault;
 use crate::values::{
     address_in, addresses_in, keys_choice_in, name_in, number_in, secret_in, tables_in,
 };
-use agent_settings::AddressList;
+use agent_settings::{AddressList, ConfigFault};
 use std::alloc::Global;
 use toml::{Table, Value};
 use wire_core::Octets;

@@ -1,7 +1,6 @@
 //! The settings of the agent, read from TOML.
 #![tactic(auto)]
 
-mod fault;
 mod gathering;
 mod keys;
 mod laws;
@@ -9,10 +8,9 @@ mod reading;
 mod values;
 
 pub use agent_settings::{
-    AddressList, Client, Clients, Config, client_keeps_limits, clients_are_in_limits,
+    AddressList, Client, Clients, Config, ConfigFault, client_keeps_limits, clients_are_in_limits,
     found_stands_at_place, is_client_in_limits, is_in_limits,
 };
-pub use fault::ConfigFault;
 pub use gathering::clients_from;
 pub use laws::{distinct_unless_twice, settings_are_in_limits};
 pub use reading::read;

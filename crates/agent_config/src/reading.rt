@@ -5,15 +5,14 @@ ghost use Rattle.toml.specs.Data.{as_table};
 ghost use Rattle.toml.specs.View.{items_view, table_view};
 ghost use Rattle.agent_config.specs.Values.{each, number_of, tables_of};
 ghost use Rattle.agent_config.specs.Settings.{allowed, at, client_faults, client_of, clients_faults, first, identity_faults, name_faults, number_faults, origin_faults, rule_faults, settings_in, settled, tables_in, top_faults, top_of};
-ghost use Rattle.agent_config.specs.declared.fault.ConfigFault.TheVariants as fault;
+ghost use Rattle.agent_settings.specs.declared.fault.ConfigFault.TheVariants as fault;
 
-use crate::fault::ConfigFault;
 use crate::gathering::clients_from;
 use crate::keys::{
     address, addresses, client_tables, flag, keys_choice, name, name_or_none, no_others, number,
     secret,
 };
-use agent_settings::{AddressList, Client, Clients, Config};
+use agent_settings::{AddressList, Client, Clients, Config, ConfigFault};
 use std::alloc::Global;
 use toml::{Table, Value};
 use wire_core::Octets;

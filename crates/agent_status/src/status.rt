@@ -3,11 +3,11 @@
 ghost use Rattle.std.specs.Prelude.{◌≡◌};
 ghost use Rattle.agent_status.specs.Numbers.{status_number};
 
-use agent_config::ConfigFault;
+use agent_settings::ConfigFault;
 use peer_machine::LinkCause;
 
 /// How a run ended.
-#[derive(Clone, Debug, Drop, PartialEq, Eq)]
+#[derive(Clone, Drop, PartialEq, Eq)]
 pub enum Status {
     /// The input was read to its end, or the run came to the moment of its end.
     Done,

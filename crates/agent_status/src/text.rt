@@ -1,7 +1,7 @@
 //! The names of statuses, with what they hold.
 
 use crate::status::Status;
-use agent_config::ConfigFault;
+use agent_settings::ConfigFault;
 use peer_machine::LinkCause;
 use std::fmt;
 use std::fmt::{Display, Formatter};

@@ -5,7 +5,7 @@ ghost use Rattle.wire_core.specs.Counts.{Rose};
 ghost use Rattle.agent_settings.specs.declared.config.Config.{Config};
 ghost use Rattle.agent_settings.specs.Config.{InLimits};
 ghost use Rattle.agent_config.specs.Settings.{settings_in};
-ghost use Rattle.agent_config.specs.declared.fault.ConfigFault.{ConfigFault};
+ghost use Rattle.agent_settings.specs.declared.fault.ConfigFault.{ConfigFault};
 ghost use Rattle.agent_server.specs.Desks.{HasRead};
 ghost use Rattle.text_commands.specs.SettingsInput.{SettingsNot};
 ghost use Rattle.text_commands.specs.Tasks.{EndsCounts};

@@ -26,14 +26,14 @@ pub enum RowFault {
     TooLong,
 }
 
-#[derive(Clone, Copy, Debug)]
+#[derive(Clone, Copy)]
 enum Held<'a> {
     Borrowed(&'a [u8]),
     Made([u8; 4]),
 }
 
 /// A translated value. Contracts see it as its octets.
-#[derive(Debug, Drop)]
+#[derive(Drop)]
 pub struct Image<'a> {
     held: Held<'a>,
 }

@@ -8,7 +8,7 @@ ghost use Rattle.attribute_table.specs.VendorViews.{part_view};
 use std::marker::Model;
 
 /// One part of a Vendor-Specific attribute (RFC 2865, section 5.26).
-#[derive(Clone, Copy, Debug)]
+#[derive(Clone, Copy)]
 pub struct VsaPart<'a> {
     pub vendor: u32,
     /// The vendor's type.
@@ -17,7 +17,7 @@ pub struct VsaPart<'a> {
 }
 
 /// The parts of a Vendor-Specific attribute in order. Contracts see it as the parts that are left.
-#[derive(Debug, Drop)]
+#[derive(Drop)]
 pub struct Vsa<'a> {
     pub(crate) vendor: u32,
     pub(crate) rest: &'a [u8],

@@ -5,7 +5,7 @@ ghost use Rattle.attribute_table.specs.Rows as table;
 ghost use Rattle.attribute_table.specs.Rows.{row_of};
 
 /// What a value is.
-#[derive(Clone, Copy, Debug, PartialEq, Eq)]
+#[derive(Clone, Copy, PartialEq, Eq)]
 pub enum Kind {
     /// UTF-8 of any length, none included.
     Text,
@@ -24,7 +24,7 @@ pub enum Kind {
 }
 
 /// An attribute that becomes one AVP, and the packets in which it does.
-#[derive(Clone, Copy, Debug, PartialEq, Eq)]
+#[derive(Clone, Copy, PartialEq, Eq)]
 pub struct Row {
     /// The type of the attribute.
     pub code: u8,

@@ -9,7 +9,7 @@ pub(crate) const VENDOR: u8 = 0x80;
 pub(crate) const MANDATORY: u8 = 0x40;
 
 /// An AVP of a list (RFC 6733, section 4.1), whose body lies in the list's octets.
-#[derive(Clone, Copy, Debug)]
+#[derive(Clone, Copy)]
 pub struct Avp<'a> {
     /// The AVP Code.
     pub code: u32,

@@ -38,7 +38,7 @@ impl From<AllocError> for WriteFault {
 
 /// A group that was begun in a list and isn't ended yet. Contracts see how many octets of the list
 /// stand before it.
-#[derive(Debug, Drop)]
+#[derive(Drop)]
 pub struct Group {
     place: usize,
 }

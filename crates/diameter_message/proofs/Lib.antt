@@ -1,4 +1,5 @@
 pub mod FindingLemmas
 pub mod MessageLemmas
+pub mod OnlyLemmas
 pub mod RoomLemmas
 pub mod StreamLemmas

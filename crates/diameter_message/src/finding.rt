@@ -1,7 +1,7 @@
 //! Looking for AVPs by their code, with V clear.
 
-ghost use Rattle.std.specs.Prelude.{◌≡◌, ◌≤◌, length, find, option_map, IfSome, IsTrue};
-ghost use Rattle.diameter_avp.specs.Avps.{readable_avps};
+ghost use Rattle.std.specs.Prelude.{◌≡◌, ◌≤◌, length, find, option_copied, option_map, IfSome, IsTrue};
+ghost use Rattle.diameter_avp.specs.Avps.{readable_avps, read_avps};
 ghost use Rattle.diameter_avp.specs.View.{avp_view};
 ghost use Rattle.diameter_message.specs.Finding as specs;
 
@@ -59,4 +59,25 @@ pub fn find_number(octets: &[u8], code: u32) -> Option<u32>
         Some(avp) => Some(get_u32(avp.body, 0)),
         None => None,
     }
+}
+
+/// The body of the only AVP of this code with V clear. None where there isn't exactly one, or where the AVPs can't all be
+/// read.
+#[tactic(auto, using(crate::proofs::OnlyLemmas::only_after_whole))]
+pub fn find_only(octets: &[u8], code: u32) -> Option<&[u8]>
+    ensures { option_copied result ≡ specs.only_in code (read_avps octets.now) }
+{
+    let mut found = None;
+    for item in avps(octets) {
+        let Ok(avp) = item else {
+            return None;
+        };
+        if has_code(&avp, code) {
+            if found.is_some() {
+                return None;
+            }
+            found = Some(avp.body);
+        }
+    }
+    found
 }

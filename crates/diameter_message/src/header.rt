@@ -1,7 +1,7 @@
 //! The header of a message.
 
 /// The header of a Diameter message (RFC 6733, section 3) without its version and its length.
-#[derive(Clone, Copy, Debug, PartialEq, Eq)]
+#[derive(Clone, Copy, PartialEq, Eq)]
 pub struct Header {
     /// The command flags: R is 0x80, P 0x40, E 0x20 and T 0x10.
     pub flags: u8,

@@ -26,7 +26,7 @@ mod retransmission;
 mod writer;
 
 pub use fault::{FrameFault, MessageFault};
-pub use finding::{find_avp, find_number, has_code, number_of};
+pub use finding::{find_avp, find_number, find_only, has_code, number_of};
 pub use framer::Framer;
 pub use header::Header;
 pub use message::{Message, parse};

@@ -10,7 +10,7 @@ use crate::header::Header;
 use wire_core::{get_u24, get_u32};
 
 /// A message whose AVPs lie in its octets.
-#[derive(Clone, Copy, Debug)]
+#[derive(Clone, Copy)]
 pub struct Message<'a> {
     pub header: Header,
     /// The octets behind the header, which aren't looked at.

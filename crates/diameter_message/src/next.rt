@@ -4,7 +4,7 @@ use crate::fault::FrameFault;
 use wire_core::Octets;
 
 /// What comes next in a stream of messages.
-#[derive(Debug, PartialEq, Eq, Drop)]
+#[derive(PartialEq, Eq, Drop)]
 pub enum Next {
     /// The next whole message.
     Message(Octets),

@@ -1,3 +1,2 @@
-pub mod DigestLemmas
 pub mod DisconnectLemmas
 pub mod VerdictLemmas

@@ -6,7 +6,7 @@ ghost use Rattle.eap_map.specs.Passing as passing;
 use translation::Seen;
 
 /// What stood before an attribute.
-#[derive(Clone, Copy, Debug)]
+#[derive(Clone, Copy)]
 pub(crate) struct EapSeen {
     pub common: Seen,
     /// An EAP-Message.

@@ -8,7 +8,7 @@ use Rattle.std.proofs.lemmas.Nat.Bits.{same_from_bits, bit_at_xor, bit_at-lt}
 use Rattle.std.proofs.Math.Seq.{take-append-add}
 use Rattle.md5.specs.Md5.{md5}
 use Rattle.md5.proofs.StandardFacts.{length-md5}
-use Rattle.password_hiding.specs.Hiding.{block, xor_each, before_block, mask, is_hidden_length, Hides, plain_blocks, padded_length, padded}
+use Rattle.password_hiding.specs.Hiding.{block, xor_each, before_block, mask, is_hidden_length, Hides, hidden_blocks, plain_blocks, padded_length, padded}
 
 -- ---- octet by octet
 
@@ -192,6 +192,24 @@ plain_front secret authenticator old octets (suc n) le plain =
     ∙ ap (λ (xs : List ℕ). xs ++ block octets n) (plain_front secret authenticator old octets n (omega arith) (λ j lt. plain j (omega arith)))
     ∙ ap (λ (xs : List ℕ). plain_blocks secret authenticator old n ++ xs) (plain n (omega arith))
 
+-- ---- the hidden form
+
+-- a block is masked by what stands before it, so that a front tells as much as the whole
+before_front : (authenticator hidden : List ℕ) (i : ℕ) → before_block authenticator (take (16 * i) hidden) i ≡ before_block authenticator hidden i
+before_front authenticator hidden zero = refl
+before_front authenticator hidden (suc k) = block-take hidden (16 * suc k) k (omega arith)
+
+pub hidden_front : (secret authenticator plain hidden : List ℕ) (n : ℕ) → 16 * n ≤ length hidden
+    → ((j : ℕ) → j < n → block hidden j ≡ xor_each (block plain j) (mask secret authenticator hidden j)) → take (16 * n) hidden ≡ hidden_blocks secret authenticator plain n
+unfolding hidden_blocks
+hidden_front secret authenticator plain hidden zero le blocks = refl
+hidden_front secret authenticator plain hidden (suc n) le blocks =
+    take-block hidden n (omega arith)
+    ∙ ap (λ (xs : List ℕ). take (16 * n) hidden ++ xs) (blocks n (omega arith))
+    ∙ ap (λ (xs : List ℕ). take (16 * n) hidden ++ xor_each (block plain n) (md5 (secret ++ xs))) (sym (before_front authenticator hidden n))
+    ∙ ap (λ (xs : List ℕ). xs ++ xor_each (block plain n) (mask secret authenticator xs n))
+    (hidden_front secret authenticator plain hidden n (omega arith) (λ j lt. blocks j (omega arith)))
+
 -- ---- sizes
 
 pub record Sized (n : ℕ) : Type 0 where
@@ -235,6 +253,14 @@ plain_is secret authenticator plain hidden h =
     let all : length plain ≤ 16 * (length hidden / 16) = omega (arith, h.same_length, s.whole) in
     sym (take_all (16 * (length hidden / 16)) plain all)
     ∙ plain_front secret authenticator hidden plain (length hidden / 16) (omega (arith, h.same_length)) (unmasked secret authenticator plain hidden h)
+
+pub form_is : (secret authenticator plain hidden : List ℕ) → Hides secret authenticator plain hidden → hidden ≡ hidden_blocks secret authenticator plain (length plain / 16)
+form_is secret authenticator plain hidden h =
+    let s = sized (length hidden) h.size in
+    let all : length hidden ≤ 16 * (length hidden / 16) = omega (arith, s.whole) in
+    sym (take_all (16 * (length hidden / 16)) hidden all)
+    ∙ hidden_front secret authenticator plain hidden (length hidden / 16) (omega (arith, s.whole)) (λ j lt. h.blocks j (omega arith))
+    ∙ ap (λ (n : ℕ). hidden_blocks secret authenticator plain (n / 16)) (sym h.same_length)
 
 same_before : (authenticator hidden other : List ℕ) (n : ℕ) → take (16 * n) hidden ≡ take (16 * n) other → before_block authenticator hidden n ≡ before_block authenticator other n
 same_before authenticator hidden other zero e = refl

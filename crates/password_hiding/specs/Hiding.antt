@@ -60,6 +60,20 @@ plain_blocks secret authenticator hidden (suc i) =
 abbrev pub plain_form : List ℕ → List ℕ → List ℕ → List ℕ
 plain_form secret authenticator hidden = trimmed (plain_blocks secret authenticator hidden (length hidden / 16))
 
+-- ---- what hides a password
+
+-- so many blocks of the octets that hide the plain ones, each masked by the hidden one before it
+unfoldable pub hidden_blocks : List ℕ → List ℕ → List ℕ → ℕ → List ℕ
+hidden_blocks secret authenticator plain zero = []
+hidden_blocks secret authenticator plain (suc i) =
+    let before = hidden_blocks secret authenticator plain i in
+    before ++ xor_each (block plain i) (mask secret authenticator before i)
+
+-- the hidden form of a password
+abbrev pub hidden_form : List ℕ → List ℕ → List ℕ → List ℕ
+hidden_form secret authenticator password =
+    hidden_blocks secret authenticator (padded password) (length (padded password) / 16)
+
 -- what hidden octets hide is the password that they were made of, without the zeros at its end (section 5.2)
 abbrev pub HiddenPasswordsComeBack : Type 0
 HiddenPasswordsComeBack = (secret authenticator password hidden : List ℕ) → Hides secret authenticator password hidden → plain_form secret authenticator hidden ≡ trimmed password

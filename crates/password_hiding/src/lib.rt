@@ -5,7 +5,7 @@ mod blocks;
 pub mod laws;
 
 ghost use Rattle.std.specs.Prelude.{◌≡◌, ◌≤◌, ◌-◌, ◌++◌, nat_le, IsTrue, is_ok, IfOk, OnOk, OnErr, length, take, replicate};
-ghost use Rattle.password_hiding.specs.Hiding.{Hides, padded, padded_length, trimmed, is_hidden_length, plain_form};
+ghost use Rattle.password_hiding.specs.Hiding.{Hides, padded, padded_length, trimmed, is_hidden_length, hidden_form, plain_form};
 
 use crate::blocks::{BLOCK, hide_blocks, unhide_blocks};
 use std::marker::Model;
@@ -78,6 +78,7 @@ fn with_zeros(password: &[u8]) -> [u8; MOST]
 pub fn hide(secret: &[u8], authenticator: &[u8; 16], password: &[u8]) -> Result<Hidden, TooLong>
     ensures short { is_ok result ≡ nat_le (length password.now) 128 }
     ensures hides { IfOk result (λ hidden. Hides secret.now authenticator.now (padded password.now) hidden) }
+    ensures form { IfOk result (λ hidden. hidden ≡ hidden_form secret.now authenticator.now password.now) }
 {
     if password.len() > MOST {
         return Err(TooLong);

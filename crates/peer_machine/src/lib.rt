@@ -12,7 +12,7 @@ use diameter_message::FrameFault;
 pub use peer::{Peer, PeerInput, PeerOutput};
 
 /// Where the link to the home server stands (profile).
-#[derive(Clone, Copy, Debug, PartialEq, Eq)]
+#[derive(Clone, Copy, PartialEq, Eq)]
 pub enum Phase {
     Closed,
     Greeting,

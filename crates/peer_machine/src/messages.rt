@@ -25,7 +25,7 @@ use wire_core::{NoMemory, Octets, put_u32};
 const LONGEST_SESSION: usize = 4096;
 
 /// Who the agent is to its peer: its identity and realm, its IPv4 address, and its Origin-State-Id.
-#[derive(Debug, Drop)]
+#[derive(Drop)]
 pub struct Names {
     pub host: Octets,
     pub realm: Octets,

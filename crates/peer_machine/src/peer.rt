@@ -17,7 +17,7 @@ use std::marker::Model;
 use wire_core::{NoMemory, Octets};
 
 /// What comes in.
-#[derive(Clone, Copy, Debug)]
+#[derive(Clone, Copy)]
 pub enum PeerInput<'a> {
     /// The link is there; its capabilities are still to be exchanged.
     Up,
@@ -36,7 +36,7 @@ pub enum PeerInput<'a> {
 }
 
 /// What goes out.
-#[derive(Debug, Drop)]
+#[derive(Drop)]
 pub struct PeerOutput {
     /// A message for the link.
     pub send: Option<Octets>,
@@ -51,7 +51,7 @@ pub struct PeerOutput {
 }
 
 /// The link to the home server. Contracts see the agent's names, the watchdog's time and the link's state.
-#[derive(Debug, Drop)]
+#[derive(Drop)]
 pub struct Peer {
     names: Names,
     watchdog: u64,

@@ -5,7 +5,7 @@ use diameter_message::FrameFault;
 use radius_packet::Reason;
 
 /// A request of the base protocol that the link sends.
-#[derive(Clone, Copy, Debug, PartialEq, Eq)]
+#[derive(Clone, Copy, PartialEq, Eq)]
 pub enum BaseRequest {
     /// RFC 6733, section 5.3.
     CapabilitiesExchange,
@@ -16,7 +16,7 @@ pub enum BaseRequest {
 }
 
 /// What a message says to the link (RFC 6733, sections 5.3 to 5.5).
-#[derive(Clone, Copy, Debug, PartialEq, Eq)]
+#[derive(Clone, Copy, PartialEq, Eq)]
 pub enum Said {
     CapabilitiesRequest,
     /// The answer to the link's own request, with its Result-Code, or 0 where none can be read.
@@ -35,7 +35,7 @@ pub enum Said {
 }
 
 /// What comes in, without the octets of a message.
-#[derive(Clone, Copy, Debug, PartialEq, Eq)]
+#[derive(Clone, Copy, PartialEq, Eq)]
 pub enum Event {
     /// The link is there, with its capabilities still to be exchanged.
     Opens,
@@ -49,7 +49,7 @@ pub enum Event {
 }
 
 /// What is done about an input.
-#[derive(Clone, Copy, Debug, PartialEq, Eq)]
+#[derive(Clone, Copy, PartialEq, Eq)]
 pub enum Act {
     Nothing,
     /// From here on the link serves.
@@ -64,7 +64,7 @@ pub enum Act {
 }
 
 /// The state of the link.
-#[derive(Clone, Copy, Debug, PartialEq, Eq)]
+#[derive(Clone, Copy, PartialEq, Eq)]
 pub struct LinkState {
     pub phase: Phase,
     /// How many links began.

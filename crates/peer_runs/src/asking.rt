@@ -16,7 +16,7 @@ use wire_devices::{Clock, Datagrams, Took};
 const MOST_FAILURES: u8 = 16;
 
 /// Where the packets are sent.
-#[derive(Clone, Copy, Debug, PartialEq, Eq)]
+#[derive(Clone, Copy, PartialEq, Eq)]
 pub struct Place {
     /// An IPv4 address.
     pub address: u32,

@@ -9,7 +9,7 @@ use session_carrier::Kept;
 use wire_core::Octets;
 
 /// What became of a request that was taken up: nothing yet since it was sent, or an answer at a moment, in milliseconds.
-#[derive(Debug, Drop)]
+#[derive(Drop)]
 pub enum Answer {
     Waiting { sent: Octets },
     Silent { at: u64 },
@@ -18,7 +18,7 @@ pub enum Answer {
 
 /// A request that was taken up at the moment `taken`, in milliseconds. It came from `address` and `port`, by `via`.
 /// Its translation was last sent over the link numbered `link` with the Hop-by-Hop Identifier `number`.
-#[derive(Debug, Drop)]
+#[derive(Drop)]
 pub struct Entry {
     pub via: Via,
     pub address: u32,
@@ -31,7 +31,7 @@ pub struct Entry {
 }
 
 /// What the table has of a datagram: no live entry, or what became of it. `Kept` lends the reply.
-#[derive(Clone, Copy, Debug)]
+#[derive(Clone, Copy)]
 pub enum Found<'a> {
     New,
     Waiting,

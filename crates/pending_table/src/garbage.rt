@@ -11,7 +11,7 @@ const MOST: usize = 512;
 /// What was dropped, until the thread that took its memory gives it back: an allocator has memory ready for the thread that
 /// freed it, and it costs more to free what another thread took. Those that put rows in take the memory of a row and of
 /// what it sent, and those that settle it that of a reply.
-#[derive(Debug, Drop)]
+#[derive(Drop)]
 pub(crate) struct Garbage {
     rows: Vec<Row>,
     sent: Vec<Answer>,

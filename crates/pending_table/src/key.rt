@@ -17,7 +17,7 @@ use std::sync::Arc;
 use wire_core::{NoMemory, Octets};
 
 /// What makes two datagrams one request: the port of arrival, the source, and the octets of the packet.
-#[derive(Debug, Drop, PartialEq, Eq)]
+#[derive(Drop, PartialEq, Eq)]
 pub struct Key {
     pub via: Via,
     pub address: u32,
@@ -40,7 +40,7 @@ impl Hash for Key {
 }
 
 /// A key that an index and a row hold together, so that its octets stand once in memory.
-#[derive(Debug, Drop)]
+#[derive(Drop)]
 pub(crate) struct SharedKey {
     key: Arc<Key>,
 }

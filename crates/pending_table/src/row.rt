@@ -13,7 +13,7 @@ use std::mem;
 use wire_core::NoMemory;
 
 /// An entry beside its key. Both are on the heap, so that a row that goes from one store to another isn't copied.
-#[derive(Debug, Drop)]
+#[derive(Drop)]
 pub(crate) struct Row {
     parts: Box<(SharedKey, Entry), Global>,
 }

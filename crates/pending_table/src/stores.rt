@@ -22,21 +22,21 @@ use wire_core::NoMemory;
 
 /// Where the row of a key stands: among those that wait, by its serial number, or among the settled ones, by how many were settled
 /// before it.
-#[derive(Clone, Copy, Debug)]
+#[derive(Clone, Copy)]
 pub(crate) enum Place {
     Waiting { serial: u64 },
     Settled { count: u64 },
 }
 
 /// What an answer names: a link and a number on it.
-#[derive(Clone, Copy, Debug, PartialEq, Eq, Hash)]
+#[derive(Clone, Copy, PartialEq, Eq, Hash)]
 pub(crate) struct Number {
     pub(crate) link: u64,
     pub(crate) number: u32,
 }
 
 /// The rows that wait, by serial number, so in the order of taking, and the settled ones, in the order of settling.
-#[derive(Debug, Drop)]
+#[derive(Drop)]
 pub(crate) struct Stores {
     pub(crate) alloc: Global,
     pub(crate) keys: IndexMap<SharedKey, Place, RandomState>,

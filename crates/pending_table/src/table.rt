@@ -15,7 +15,7 @@ use std::marker::Model;
 use wire_core::{NoMemory, Octets};
 
 /// The entries in their order of taking, each with its key, at most `capacity` many that live. Contracts see it as `TableParts`.
-#[derive(Debug, Drop)]
+#[derive(Drop)]
 pub struct Table {
     stores: Stores,
     capacity: u32,

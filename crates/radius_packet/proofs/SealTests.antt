@@ -1,10 +1,10 @@
 -- A seal is found where it stands, and what is tested in place is what the definition says.
-use Rattle.std.proofs.Common.{◌≡◌, ℕ, suc, ◌+◌, Bool, true, false, cond, List, [], ◌∷◌, ◌++◌, length, get_or, take, drop, map, filter, replicate, Option, Some, None, refl, sym, ap, ◌∙◌, append_assoc, inl, inr, arith}
+use Rattle.std.proofs.Common.{◌≡◌, ℕ, suc, ◌+◌, ◌-◌, ◌≤◌, Bool, true, false, cond, List, [], ◌∷◌, ◌++◌, length, get_or, take, drop, map, filter, replicate, Option, Some, None, refl, sym, ap, ◌∙◌, append_assoc, inl, inr, arith}
 use Rattle.std.specs.Prelude.{◌⊎◌, ◌||◌, nat_eq}
 use Rattle.std.specs.List.{list_any}
 use Rattle.std.specs.Cmp.Lexicographic.{pointwise}
 use Rattle.std.proofs.lemmas.Bool.{eqb-true}
-use Rattle.std.proofs.lemmas.List.{drop_at, take_at, drop-drop, length-append, length-drop, get_or-drop, map-append}
+use Rattle.std.proofs.lemmas.List.{drop_at, take_at, drop-drop, drop-take, take-take, take-append-drop, length-append, length-drop, length-take-le, get_or-drop, map-append}
 use Rattle.std.proofs.lemmas.List.Concat.{flat_map-append}
 use Rattle.std.proofs.lemmas.List.Elements.{filter-append}
 use Rattle.std.proofs.lemmas.Slice.Eq.{bytes_eq-Decides}
@@ -14,10 +14,10 @@ use Rattle.wire_core.specs.Numbers.{u16, octets_at}
 use Rattle.wire_core.proofs.NumberLemmas.{length-u16}
 use Rattle.radius_packet.specs.Packet.{AttributeParts, PacketParts, attribute_text, attributes_text, packet_text, IsPacket}
 use Rattle.radius_packet.specs.Seals.{seal}
-use Rattle.radius_packet.specs.Checks.{is_seal, blanked, seal_value, IsSealRight, verdict, seal_of, seal_place, SealAt}
+use Rattle.radius_packet.specs.Checks.{is_seal, blanked, seal_value, IsSealRight, verdict, seal_of, seal_place, SealAt, with_authenticator}
 use Rattle.radius_packet.specs.declared.checking.Seal.TheVariants.{Absent, Right, Wrong}
 use Rattle.radius_packet.proofs.Packets.{drop-packet_text}
-use Rattle.radius_packet.proofs.Signing.{value_put}
+use Rattle.radius_packet.proofs.Signing.{authenticator_put, value_put}
 
 -- ---- which attributes are seals
 
@@ -226,30 +226,65 @@ verdict_wrong right a [] differs = rw (not_true (pointwise nat_eq a.value right)
 verdict_wrong right a (b ∷ others) differs = refl
 
 -- a value of another size is wrong
-pub wrong_size : (secret octets : List ℕ) (p : PacketParts) (place : ℕ) (s : SealAt octets p place) → (length s.value ≡ 16 → ⊥) → Wrong ≡ seal_of secret p
-wrong_size secret octets p place s differs =
-    let right : List ℕ = seal_value secret p (map blanked p.attributes) in
+pub wrong_size : (secret octets a : List ℕ) (p : PacketParts) (place : ℕ) (s : SealAt octets p place) → (length s.value ≡ 16 → ⊥) → Wrong ≡ seal_of secret (with_authenticator a p)
+wrong_size secret octets a p place s differs =
+    let q : PacketParts = with_authenticator a p in
+    let right : List ℕ = seal_value secret q (map blanked p.attributes) in
     sym (ap (λ (xs : List AttributeParts). verdict right xs) (seals_list p.attributes s.before s.value s.after s.attributes s.first)
-    ∙ verdict_wrong right (seal s.value) (filter is_seal s.after) (λ h. differs (ap length h ∙ length-seal_value secret p (map blanked p.attributes))))
+    ∙ verdict_wrong right (seal s.value) (filter is_seal s.after) (λ h. differs (ap length h ∙ length-seal_value secret q (map blanked p.attributes))))
 
 -- where another one follows, none is right
-pub another : (secret octets : List ℕ) (p : PacketParts) (place : ℕ) (s : SealAt octets p place) → list_any is_seal s.after ≡ true → Wrong ≡ seal_of secret p
-another secret octets p place s e =
+pub another : (secret octets a : List ℕ) (p : PacketParts) (place : ℕ) (s : SealAt octets p place) → list_any is_seal s.after ≡ true → Wrong ≡ seal_of secret (with_authenticator a p)
+another secret octets a p place s e =
     let m = some_sealed s.after e in
-    let right : List ℕ = seal_value secret p (map blanked p.attributes) in
+    let right : List ℕ = seal_value secret (with_authenticator a p) (map blanked p.attributes) in
     sym (ap (λ (xs : List AttributeParts). verdict right xs) (seals_list p.attributes s.before s.value s.after s.attributes s.first
     ∙ ap (λ (xs : List AttributeParts). seal s.value ∷ xs) m.are))
 
+-- octets at the front of a front, and what follows it
+apart : (octets rest a : List ℕ) (n : ℕ) → 20 ≤ n → n ≤ length octets
+    → take 4 (take n octets ++ rest) ++ a ++ drop 20 (take n octets ++ rest) ≡ take 4 octets ++ a ++ (octets_at octets 20 (n - 20) ++ rest)
+apart octets rest a n low inside =
+    let f : List ℕ = take n octets in
+    let len : length f ≡ n = length-take-le n octets inside in
+    let split : n ≡ 20 + (n - 20) = omega arith in
+    let front : take 4 (f ++ rest) ≡ take 4 octets =
+    ap (λ (xs : List ℕ). take 4 (xs ++ rest)) (sym (take-append-drop 4 f)) ∙ ap (λ (xs : List ℕ). take 4 xs) (append_assoc (take 4 f) (drop 4 f) rest)
+    ∙ take_at (take 4 f) (drop 4 f ++ rest) 4 (length-take-le 4 f (omega arith)) ∙ take-take 4 n octets (omega arith) in
+    let back : drop 20 (f ++ rest) ≡ octets_at octets 20 (n - 20) ++ rest =
+    ap (λ (xs : List ℕ). drop 20 (xs ++ rest)) (sym (take-append-drop 20 f)) ∙ ap (λ (xs : List ℕ). drop 20 xs) (append_assoc (take 20 f) (drop 20 f) rest)
+    ∙ drop_at (take 20 f) (drop 20 f ++ rest) 20 (length-take-le 20 f (omega arith))
+    ∙ ap (λ (xs : List ℕ). xs ++ rest) (ap (λ (k : ℕ). drop 20 (take k octets)) split ∙ drop-take 20 (n - 20) octets) in
+    ap (λ (xs : List ℕ). xs ++ a ++ drop 20 (f ++ rest)) front ∙ ap (λ (xs : List ℕ). take 4 octets ++ a ++ xs) back
+
+-- another authenticator, and zeros in place of the value
+blank_with : (octets a : List ℕ) (p : PacketParts) (place : ℕ) (s : SealAt octets p place) → length s.value ≡ 16
+    → take 4 octets ++ a ++ octets_at octets 20 (place + 2 - 20) ++ replicate 16 0 ++ drop (place + 2 + 16) octets
+    ≡ packet_text (put_at (with_authenticator a p) s.before (replicate 16 0) s.after)
+blank_with octets a p place s size =
+    let q : PacketParts = put_at p s.before (replicate 16 0) s.after in
+    let rest : List ℕ = drop (place + 2 + 16) octets in
+    let at : place + 2 + 16 ≡ place + 18 = omega arith in
+    let text : take (place + 2) octets ++ replicate 16 0 ++ rest ≡ packet_text q =
+    ap (λ (n : ℕ). take (place + 2) octets ++ replicate 16 0 ++ drop n octets) at ∙ blank_at octets p place s size in
+    append_assoc (take 4 octets ++ a ++ octets_at octets 20 (place + 2 - 20)) (replicate 16 0) rest
+    ∙ append_assoc (take 4 octets ++ a) (octets_at octets 20 (place + 2 - 20)) (replicate 16 0 ++ rest)
+    ∙ sym (apart octets (replicate 16 0 ++ rest) a (place + 2) (omega (arith, s.place_is)) (omega (arith, room_at octets p place s)))
+    ∙ ap (λ (xs : List ℕ). take 4 xs ++ a ++ drop 20 xs) (sym (append_assoc (take (place + 2) octets) (replicate 16 0) rest) ∙ text)
+    ∙ authenticator_put q a s.packet.authenticator
+
 -- the one of sixteen octets is compared in place
-pub alone : (secret octets : List ℕ) (p : PacketParts) (place : ℕ) (s : SealAt octets p place) → list_any is_seal s.after ≡ false → length s.value ≡ 16
-    → cond (pointwise nat_eq (octets_at octets (place + 2) 16) (hmac_of secret (take (place + 2) octets ++ replicate 16 0 ++ drop (place + 18) octets))) Right Wrong ≡ seal_of secret p
+pub alone : (secret octets a : List ℕ) (p : PacketParts) (place : ℕ) (s : SealAt octets p place) → list_any is_seal s.after ≡ false → length s.value ≡ 16
+    → cond (pointwise nat_eq (octets_at octets (place + 2) 16)
+    (hmac_of secret (take 4 octets ++ a ++ octets_at octets 20 (place + 2 - 20) ++ replicate 16 0 ++ drop (place + 2 + 16) octets))) Right Wrong ≡ seal_of secret (with_authenticator a p)
 unfolding seal_value
-alone secret octets p place s e size =
+alone secret octets a p place s e size =
     let none = none_sealed s.after e in
-    let right : List ℕ = seal_value secret p (map blanked p.attributes) in
-    let same : right ≡ hmac_of secret (take (place + 2) octets ++ replicate 16 0 ++ drop (place + 18) octets) =
-    ap (λ (xs : List AttributeParts). hmac_of secret (packet_text (record p { attributes = xs }))) (blanked_list p.attributes s.before s.value s.after s.attributes s.first none)
-    ∙ ap (λ (xs : List ℕ). hmac_of secret xs) (sym (blank_at octets p place s size)) in
+    let q : PacketParts = with_authenticator a p in
+    let right : List ℕ = seal_value secret q (map blanked p.attributes) in
+    let same : right ≡ hmac_of secret (take 4 octets ++ a ++ octets_at octets 20 (place + 2 - 20) ++ replicate 16 0 ++ drop (place + 2 + 16) octets) =
+    ap (λ (xs : List AttributeParts). hmac_of secret (packet_text (record q { attributes = xs }))) (blanked_list p.attributes s.before s.value s.after s.attributes s.first none)
+    ∙ ap (λ (xs : List ℕ). hmac_of secret xs) (sym (blank_with octets a p place s size)) in
     rw (value_at octets p place s size, ← same)
     (sym (ap (λ (xs : List AttributeParts). verdict right xs) (seals_list p.attributes s.before s.value s.after s.attributes s.first
     ∙ ap (λ (xs : List AttributeParts). seal s.value ∷ xs) none)))

@@ -10,7 +10,7 @@ use Rattle.hmac_md5.proofs.Lengths.{length-hmac_of}
 use Rattle.wire_core.specs.Numbers.{u16, octets_at}
 use Rattle.wire_core.proofs.NumberLemmas.{length-u16}
 use Rattle.radius_packet.specs.Packet.{AttributeParts, PacketParts, attributes_text, packet_text, IsPacket}
-use Rattle.radius_packet.specs.Seals.{Signed, IsSealed, response_authenticator, signed_text, unsigned_text, sealed_attributes, reply_text, ReplyParts, seal, roomy_attributes, draft_text, draft_in, IsDraft}
+use Rattle.radius_packet.specs.Seals.{Signed, IsSealed, response_authenticator, signed_text, unsigned_text, sealed_attributes, reply_text, ReplyParts, request_parts, request_text, seal, roomy_attributes, draft_text, draft_in, IsDraft}
 use Rattle.radius_packet.proofs.Packets.{length-packet_text, take-packet_text, authenticator-packet_text, drop-packet_text}
 use Rattle.radius_packet.proofs.Drafts.{drop_past, length-draft_text}
 
@@ -85,16 +85,20 @@ middle_is secret request put middle code id true list e ep em =
     em ∙ ap (λ (xs : List ℕ). take 22 xs ++ hmac_of secret xs ++ drop 38 xs) ep ∙ seal_put request _ code id list e (length-hmac_of secret _)
 middle_is secret request put middle code id false list e ep em = em ∙ ep
 
-pub filled : (secret octets put middle signed : List ℕ) (r : ReplyParts) → octets ≡ draft_text r → length r.request ≡ 16
-    → put ≡ take 2 octets ++ u16 (length octets) ++ drop 4 octets → Seals r.sealed secret put middle → signed ≡ take 4 middle ++ md5 (middle ++ secret) ++ drop 20 middle
-    → signed ≡ reply_text secret r.request r.code r.id r.sealed r.attributes
-unfolding reply_text
-filled secret octets put middle signed r text e ep em es =
-    let p : PacketParts = record { code = r.code; id = r.id; authenticator = r.request; attributes = sealed_attributes secret r.request r.code r.id r.sealed r.attributes } in
+-- the request that keeps its authenticator
+pub completed : (secret octets put middle : List ℕ) (r : ReplyParts) → octets ≡ draft_text r → length r.request ≡ 16
+    → put ≡ take 2 octets ++ u16 (length octets) ++ drop 4 octets → Seals r.sealed secret put middle → middle ≡ request_text secret r
+completed secret octets put middle r text e ep em =
     let put_is : put ≡ unsigned_text r.request r.code r.id (roomy_attributes r.sealed r.attributes) =
     ep ∙ ap (λ (xs : List ℕ). take 2 xs ++ u16 (length xs) ++ drop 4 xs) text ∙ length_put r e in
-    let all : middle ≡ packet_text p = middle_is secret r.request put middle r.code r.id r.sealed r.attributes e put_is em in
-    es ∙ ap (λ (xs : List ℕ). take 4 xs ++ md5 (xs ++ secret) ++ drop 20 xs) all ∙ signature_put secret p e
+    middle_is secret r.request put middle r.code r.id r.sealed r.attributes e put_is em
+
+pub filled : (secret middle signed : List ℕ) (r : ReplyParts) → length r.request ≡ 16
+    → middle ≡ request_text secret r → signed ≡ take 4 middle ++ md5 (middle ++ secret) ++ drop 20 middle
+    → signed ≡ reply_text secret r.request r.code r.id r.sealed r.attributes
+unfolding reply_text
+filled secret middle signed r e all es =
+    es ∙ ap (λ (xs : List ℕ). take 4 xs ++ md5 (xs ++ secret) ++ drop 20 xs) all ∙ signature_put secret (request_parts secret r) e
 
 -- ---- the signed packet
 
@@ -102,7 +106,7 @@ abbrev pub sealed_parts : List ℕ → List ℕ → ℕ → ℕ → Bool → Lis
 sealed_parts secret request code id sealed list authenticator =
     record { code = code; id = id; authenticator = authenticator; attributes = sealed_attributes secret request code id sealed list }
 
-authenticator_put : (p : PacketParts) (a : List ℕ) → length p.authenticator ≡ 16 → take 4 (packet_text p) ++ a ++ drop 20 (packet_text p) ≡ packet_text (record p { authenticator = a })
+pub authenticator_put : (p : PacketParts) (a : List ℕ) → length p.authenticator ≡ 16 → take 4 (packet_text p) ++ a ++ drop 20 (packet_text p) ≡ packet_text (record p { authenticator = a })
 unfolding packet_text u16
 authenticator_put p a e = rw (drop_at p.authenticator (attributes_text p.attributes) 16 e) refl
 
@@ -216,3 +220,23 @@ pub finished : (secret octets text : List ℕ) (sealed : Bool) (r : ReplyParts) 
 finished secret octets text sealed r draft e et =
     subst (λ (xs : List ℕ). Finished secret r xs) (sym et)
     (subst (λ (q : ReplyParts). Finished secret q (reply_text secret q.request q.code q.id q.sealed q.attributes)) e (finishes secret octets sealed draft))
+
+-- a draft that is made a request is a packet
+completes : (secret octets : List ℕ) (sealed : Bool) → IsDraft sealed octets → IsPacket (request_text secret (draft_in sealed octets)) (request_parts secret (draft_in sealed octets))
+completes secret octets sealed draft =
+    let r : ReplyParts = draft_in sealed octets in
+    let len = length-draft_text r draft.request in
+    let size = ap length draft.text in
+    let most = draft.most in
+    record {
+      text = refl;
+      authenticator = draft.request;
+      values = sealed_values secret r.request r.code r.id r.sealed r.attributes draft.values;
+      most = omega (arith, length-packet_text (request_parts secret r) draft.request, sealed_size secret r.request r.code r.id r.sealed r.attributes);
+    }
+
+pub completed_packet : (secret octets text : List ℕ) (sealed : Bool) (r : ReplyParts) → IsDraft sealed octets → draft_in sealed octets ≡ r → text ≡ request_text secret r
+    → IsPacket text (request_parts secret r)
+completed_packet secret octets text sealed r draft e et =
+    subst (λ (xs : List ℕ). IsPacket xs (request_parts secret r)) (sym et)
+    (subst (λ (q : ReplyParts). IsPacket (request_text secret q) (request_parts secret q)) e (completes secret octets sealed draft))

@@ -1,5 +1,5 @@
 -- What a receiver tests of a packet (RFC 2866, section 3; RFC 3579, section 3.2).
-use Rattle.std.specs.Prelude.{◌≡◌, ℕ, ◌+◌, ◌==◌, nat_eq, Bool, if◌then◌else◌, List, [], ◌∷◌, ◌++◌, length, map, filter, replicate, Option, Some, None}
+use Rattle.std.specs.Prelude.{◌≡◌, ℕ, ◌+◌, ◌==◌, nat_eq, Bool, true, false, ◌&&◌, if◌then◌else◌, List, [], ◌∷◌, ◌++◌, length, map, filter, replicate, Option, Some, None}
 use Rattle.std.specs.Cmp.Lexicographic.{pointwise}
 use Rattle.hmac_md5.specs.Hmac.{hmac_of}
 use Rattle.wire_core.specs.Numbers.{octets_at}
@@ -51,6 +51,26 @@ verdict right (a ∷ b ∷ others) = Wrong
 -- what the seal of a packet says
 abbrev pub seal_of : List ℕ → PacketParts → Seal
 seal_of secret p = verdict (seal_value secret p (map blanked p.attributes)) (filter is_seal p.attributes)
+
+-- ---- a reply (RFC 2865, section 3; RFC 3579, section 3.2)
+
+-- the authenticator is the Response Authenticator to a request with this one
+abbrev pub is_response_right : List ℕ → List ℕ → PacketParts → Bool
+is_response_right secret request p =
+    pointwise nat_eq p.authenticator (response_authenticator secret request (packet_text p))
+
+-- the Message-Authenticator of a reply is made over the packet that has the request's authenticator
+abbrev pub with_authenticator : List ℕ → PacketParts → PacketParts
+with_authenticator authenticator p = record p { authenticator = authenticator }
+
+abbrev pub is_passed : Seal → Bool
+is_passed Wrong = false
+is_passed _ = true
+
+-- and there is no Message-Authenticator, or one alone that is right
+abbrev pub is_reply_right : List ℕ → List ℕ → PacketParts → Bool
+is_reply_right secret request p =
+    is_response_right secret request p && is_passed (seal_of secret (with_authenticator request p))
 
 -- ---- finding it
 

@@ -57,6 +57,18 @@ pub record ReplyParts : Type 0 where
   pub sealed : Bool
   pub attributes : List AttributeParts
 
+-- the request of these parts, which keeps its authenticator; its Message-Authenticator, where there is one, comes first
+abbrev pub request_parts : List ℕ → ReplyParts → PacketParts
+request_parts secret r = record {
+  code = r.code;
+  id = r.id;
+  authenticator = r.request;
+  attributes = sealed_attributes secret r.request r.code r.id r.sealed r.attributes;
+}
+
+abbrev pub request_text : List ℕ → ReplyParts → List ℕ
+request_text secret r = packet_text (request_parts secret r)
+
 -- the octets that the packet has
 abbrev pub reply_length : ReplyParts → ℕ
 reply_length r = 20 + (if r.sealed then 18 else 0) + length (attributes_text r.attributes)

@@ -5,7 +5,7 @@ ghost use Rattle.std.specs.Vec.{vec_capacity};
 ghost use Rattle.md5.specs.Md5.{md5};
 ghost use Rattle.hmac_md5.specs.Hmac.{hmac_of};
 ghost use Rattle.radius_packet.specs.Packet.{IsPacket, attributes_in, attributes_text};
-ghost use Rattle.radius_packet.specs.Seals.{Signed, IsDraft, draft_in, sealed_attributes, reply_length, reply_text, has_room};
+ghost use Rattle.radius_packet.specs.Seals.{Signed, IsDraft, draft_in, sealed_attributes, reply_length, reply_text, request_parts, request_text, has_room};
 
 use crate::sizes::{HEADER, MOST, SEAL};
 use hmac_md5::hmac;
@@ -66,16 +66,24 @@ fn sign(octets: &mut [u8], secret: &[u8])
     octets[4..HEADER].copy_from_slice(&hasher.finalize());
 }
 
-/// Makes the signed packet of a draft.
-fn fill(octets: &mut [u8], sealed: bool, secret: &[u8])
+/// Fills in the Length of a draft, and its seal.
+fn complete(octets: &mut [u8], sealed: bool, secret: &[u8])
     requires { IsDraft sealed octets.old }
-    ensures { let r = draft_in sealed octets.old in octets.new ≡ reply_text secret.now r.request r.code r.id sealed r.attributes }
+    ensures { octets.new ≡ request_text secret.now (draft_in sealed octets.old) }
 {
     let length = octets.len() as u16;
     put_u16(octets, 2, length);
     if sealed {
         seal(octets, secret);
     }
+}
+
+/// Makes the signed packet of a draft.
+fn fill(octets: &mut [u8], sealed: bool, secret: &[u8])
+    requires { IsDraft sealed octets.old }
+    ensures { let r = draft_in sealed octets.old in octets.new ≡ reply_text secret.now r.request r.code r.id sealed r.attributes }
+{
+    complete(octets, sealed, secret);
     sign(octets, secret);
 }
 
@@ -145,6 +153,17 @@ impl Reply {
     {
         let Reply { mut octets, sealed } = self;
         fill(octets.as_mut_slice(), sealed, secret);
+        Octets::from_vec(octets)
+    }
+
+    /// A request, which keeps the authenticator that it was begun with (RFC 2865, section 3): the Message-Authenticator alone,
+    /// where there is one, is filled in. Its octets still have the room of the longest packet.
+    pub fn finish_request(self, secret: &[u8]) -> Octets
+        ensures text { result ≡ request_text secret.now self }
+        ensures packet { IsPacket result (request_parts secret.now self) }
+    {
+        let Reply { mut octets, sealed } = self;
+        complete(octets.as_mut_slice(), sealed, secret);
         Octets::from_vec(octets)
     }
 }

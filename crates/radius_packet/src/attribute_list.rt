@@ -8,14 +8,14 @@ ghost use Rattle.radius_packet.specs.Views.{attribute_view};
 use std::marker::Model;
 
 /// An attribute: its type, and its value of up to 253 octets.
-#[derive(Clone, Copy, Debug, PartialEq, Eq)]
+#[derive(Clone, Copy, PartialEq, Eq)]
 pub struct Attribute<'a> {
     pub code: u8,
     pub value: &'a [u8],
 }
 
 /// The attributes that are left. Contracts see them as the list of their parts.
-#[derive(Debug, Drop)]
+#[derive(Drop)]
 pub struct Attributes<'a> {
     rest: &'a [u8],
 }

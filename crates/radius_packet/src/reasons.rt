@@ -3,7 +3,7 @@
 ghost use Rattle.std.specs.Prelude.{◌≡◌};
 
 /// Why an input has no other answer, in the order in which the reasons are looked at (profile).
-#[derive(Clone, Copy, Debug, PartialEq, Eq)]
+#[derive(Clone, Copy, PartialEq, Eq)]
 pub enum Reason {
     /// No client has the source address.
     UnknownClient,
@@ -95,7 +95,7 @@ impl Reason {
 }
 
 /// The port on which a packet came.
-#[derive(Clone, Copy, Debug, PartialEq, Eq, Hash)]
+#[derive(Clone, Copy, PartialEq, Eq, Hash)]
 pub enum Via {
     Auth,
     Acct,

@@ -13,7 +13,7 @@ use std::marker::Model;
 use wire_core::get_u16;
 
 /// A packet in the octets of a datagram. Contracts see it as its parts.
-#[derive(Debug, Drop)]
+#[derive(Drop)]
 pub struct Packet<'a> {
     octets: &'a [u8],
 }

@@ -27,7 +27,7 @@ use transcript::{Line, LineReader, print, print_end};
 use wire_core::{NoMemory, Put, Sink};
 
 /// How many lines of each kind were printed. A count stands still at its end.
-#[derive(Clone, Copy, Debug, PartialEq, Eq)]
+#[derive(Clone, Copy, PartialEq, Eq)]
 pub(crate) struct Counts {
     pub(crate) replies: u64,
     pub(crate) sends: u64,

@@ -17,7 +17,7 @@ use wire_core::{NoMemory, Put};
 use wire_devices::LinkOut;
 
 /// How a writer went from its link.
-#[derive(Clone, Copy, Debug, PartialEq, Eq)]
+#[derive(Clone, Copy, PartialEq, Eq)]
 pub enum WriterEnd {
     /// The link was closed for this cause.
     Closed { cause: LinkCause },

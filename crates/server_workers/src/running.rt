@@ -31,7 +31,7 @@ use wire_devices::{Crew, Datagrams, Dialer, LinkIn, LinkOut, ThreadHelper};
 pub const MOST_LINKS: usize = 256;
 
 /// Why no further link is made.
-#[derive(Clone, Copy, Debug, PartialEq, Eq)]
+#[derive(Clone, Copy, PartialEq, Eq)]
 pub enum RunEnd {
     /// The home server refused the link, or the agent left it.
     Closed,

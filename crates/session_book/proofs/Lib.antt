@@ -1,4 +1,3 @@
-pub mod ReadingLemmas
 pub mod BookLemmas
 pub mod LedgerLemmas
 pub mod Opening

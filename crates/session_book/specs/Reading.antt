@@ -1,12 +1,11 @@
 -- What is read of messages and packets for the book.
-use Rattle.std.specs.Prelude.{ℕ, Bool, nat_le, ◌==◌, ◌&&◌, List, [], ◌∷◌, find, filter, Option, Some, None, option_map, unwrap_or, Result, Ok, Err, if◌then◌else◌}
+use Rattle.std.specs.Prelude.{ℕ, Bool, nat_le, ◌==◌, ◌&&◌, List, find, Option, Some, None, option_map, unwrap_or, Result, Ok, Err, if◌then◌else◌}
 use Rattle.radius_packet.specs.Packet.{PacketParts}
 use Rattle.diameter_avp.specs.Avps.{AvpParts, read_avps, readable_avps}
-use Rattle.diameter_avp.specs.declared.fault.AvpFault.{AvpFault}
 use Rattle.diameter_message.specs.declared.header.Header.{Header}
 use Rattle.diameter_message.specs.declared.fault.MessageFault.{MessageFault}
 use Rattle.diameter_message.specs.Message.{MessageParts, read_message}
-use Rattle.diameter_message.specs.Finding.{has_code}
+use Rattle.diameter_message.specs.Finding.{has_code, only_in}
 use Rattle.accounting_map.specs.Numbers.{first_number}
 use Rattle.session_book.specs.declared.aborts.Asked.{Asked}
 use Rattle.session_book.specs.declared.reading.Ask.{Ask}
@@ -21,17 +20,6 @@ pub record AskParts : Type 0 where
 
 abbrev pub ask_view : Ask → AskParts
 ask_view a = record { asked = a.asked; session = a.session.now; host = a.host.now }
-
--- the body of the only one of these
-abbrev pub only_body : List AvpParts → Option (List ℕ)
-only_body [] = None
-only_body (a ∷ []) = Some a.body
-only_body (a ∷ b ∷ rest) = None
-
--- the body of the only AVP of this code with V clear, of AVPs that can all be read
-abbrev pub only_in : ℕ → Result (List AvpParts) AvpFault → Option (List ℕ)
-only_in code (Ok avps) = only_body (filter (has_code code) avps)
-only_in code (Err fault) = None
 
 -- a request of the command Abort-Session: flag R is set
 abbrev pub is_abort : Header → Bool

@@ -18,7 +18,7 @@ const MOST_TIMES: u8 = 3;
 const PAUSE: u64 = 2_000;
 
 /// What an answer repeats of the header of an Abort-Session-Request (RFC 6733, sections 3 and 6.2).
-#[derive(Clone, Copy, Debug, PartialEq, Eq)]
+#[derive(Clone, Copy, PartialEq, Eq)]
 pub struct Asked {
     pub flags: u8,
     pub application: u32,
@@ -41,7 +41,7 @@ pub struct Abort {
 }
 
 /// How often a Disconnect-Request was sent, and when last, in milliseconds.
-#[derive(Clone, Copy, Debug, PartialEq, Eq)]
+#[derive(Clone, Copy, PartialEq, Eq)]
 pub struct Sent {
     pub times: u8,
     pub last: u64,

@@ -23,7 +23,7 @@ pub enum BookInput {
 }
 
 /// Why an input of the book has no other answer (profile). Its numbers follow those of the reasons of a core.
-#[derive(Clone, Copy, Debug, PartialEq, Eq)]
+#[derive(Clone, Copy, PartialEq, Eq)]
 pub enum BookReason {
     /// An Abort-Session-Request that comes again while its session's end is asked for.
     AbortOpen,

@@ -1,7 +1,6 @@
 //! What is read of messages and packets for the book.
 
 ghost use Rattle.std.specs.Prelude.{◌≡◌, ◌≤◌, ◌<◌, ◌^◌, length, option_copied, option_map, IfSome};
-ghost use Rattle.diameter_avp.specs.Avps.{read_avps};
 ghost use Rattle.diameter_message.specs.Message.{read_message};
 ghost use Rattle.accounting_map.specs.Numbers as values;
 ghost use Rattle.session_book.specs.Reading as specs;
@@ -9,11 +8,10 @@ ghost use Rattle.session_book.specs.State as state;
 
 use crate::aborts::Asked;
 use crate::values::LONGEST_SESSION;
-use diameter_avp::avps;
 use diameter_message::avp_codes::{ORIGIN_HOST, SESSION_ID};
 use diameter_message::command_codes::ABORT_SESSION;
 use diameter_message::command_flags::REQUEST;
-use diameter_message::{Header, find_avp, has_code, parse};
+use diameter_message::{Header, find_avp, find_only, parse};
 use radius_packet::Packet;
 use wire_core::get_u32;
 
@@ -24,32 +22,11 @@ const ACCOUNTING_REQUEST: u8 = 4;
 const ACCT_STATUS_TYPE: u8 = 40;
 
 /// An Abort-Session-Request: who asks, and which session is to end (RFC 6733, section 8.5.1).
-#[derive(Clone, Copy, Debug)]
+#[derive(Clone, Copy)]
 pub(crate) struct Ask<'a> {
     pub(crate) asked: Asked,
     pub(crate) session: &'a [u8],
     pub(crate) host: &'a [u8],
-}
-
-/// The body of the only AVP of this code with V clear. None where there isn't exactly one, or where the AVPs can't all be
-/// read.
-#[tactic(auto, using(crate::proofs::ReadingLemmas::only_after_whole))]
-pub(crate) fn only(octets: &[u8], code: u32) -> Option<&[u8]>
-    ensures { option_copied result ≡ specs.only_in code (read_avps octets.now) }
-{
-    let mut found = None;
-    for item in avps(octets) {
-        let Ok(avp) = item else {
-            return None;
-        };
-        if has_code(&avp, code) {
-            if found.is_some() {
-                return None;
-            }
-            found = Some(avp.body);
-        }
-    }
-    found
 }
 
 fn is_abort(header: &Header) -> bool
@@ -68,10 +45,10 @@ pub(crate) fn read_ask(octets: &[u8]) -> Option<Ask<'_>>
     if !is_abort(&message.header) {
         return None;
     }
-    let Some(session) = only(message.avps, SESSION_ID) else {
+    let Some(session) = find_only(message.avps, SESSION_ID) else {
         return None;
     };
-    let Some(host) = only(message.avps, ORIGIN_HOST) else {
+    let Some(host) = find_only(message.avps, ORIGIN_HOST) else {
         return None;
     };
     let asked = Asked {

@@ -3,7 +3,7 @@
 use wire_core::Octets;
 
 /// What a request asks for.
-#[derive(Clone, Copy, Debug, PartialEq, Eq)]
+#[derive(Clone, Copy, PartialEq, Eq)]
 pub enum Kind2 {
     /// Access by a password, or by none.
     Access,
@@ -18,7 +18,7 @@ pub enum Kind2 {
 }
 
 /// What is kept of a request.
-#[derive(Debug, Drop)]
+#[derive(Drop)]
 pub struct Kept {
     pub kind: Kind2,
     /// The place of the client in the settings.
@@ -36,14 +36,14 @@ pub struct Kept {
 }
 
 /// The Hop-by-Hop and the End-to-End Identifier of a request (RFC 6733, section 3).
-#[derive(Clone, Copy, Debug, PartialEq, Eq)]
+#[derive(Clone, Copy, PartialEq, Eq)]
 pub struct Numbers {
     pub hop: u32,
     pub end: u32,
 }
 
 /// The Session-Id, the Destination-Realm and, where there is one, the Destination-Host of a request.
-#[derive(Clone, Copy, Debug)]
+#[derive(Clone, Copy)]
 pub struct Route<'a> {
     pub session: &'a [u8],
     pub realm: &'a [u8],
@@ -51,7 +51,7 @@ pub struct Route<'a> {
 }
 
 /// What an answer gives: the packet for the client, and a further request, where there is one.
-#[derive(Debug, Drop)]
+#[derive(Drop)]
 pub struct Outcome {
     pub reply: Option<Octets>,
     pub follow: Option<Octets>,

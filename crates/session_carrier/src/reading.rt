@@ -8,7 +8,7 @@ use crate::carrier::PREFIX;
 use wire_core::{is_identity, is_session_text};
 
 /// What a State carries, in the octets of its value.
-#[derive(Clone, Copy, Debug)]
+#[derive(Clone, Copy)]
 pub struct Carried<'a> {
     /// The Destination-Host of the next request.
     pub host: &'a [u8],

@@ -4,7 +4,7 @@ use std::alloc::AllocFailed;
 use wire_core::NoMemory;
 
 /// Why a text names no users (profile).
-#[derive(Clone, Copy, Debug, PartialEq, Eq)]
+#[derive(Clone, Copy, PartialEq, Eq)]
 pub enum HomeFault {
     /// The first line that is no user's, counted from 1, and the first reason that stands: 1, it has more than 140,000
     /// octets; 2, it hasn't two words; 3, a word isn't of its kind.

@@ -18,7 +18,7 @@ use std::marker::Model;
 use wire_core::{NoMemory, Octets};
 
 /// A home server. Contracts see the users that it knows.
-#[derive(Debug, Drop)]
+#[derive(Drop)]
 pub struct Home {
     users: Vec<User>,
 }

@@ -49,7 +49,7 @@ fn first_line(text: &[u8]) -> (&[u8], &[u8])
 }
 
 /// The lines of a text. Contracts see those that are left.
-#[derive(Debug, Drop)]
+#[derive(Drop)]
 pub(crate) struct Lines<'a> {
     rest: &'a [u8],
 }

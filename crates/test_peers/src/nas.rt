@@ -13,7 +13,7 @@ use wire_core::Octets;
 const PAUSE: u64 = 500;
 
 /// What the client does in a step.
-#[derive(Clone, Copy, Debug, PartialEq, Eq)]
+#[derive(Clone, Copy, PartialEq, Eq)]
 pub enum NasOutput {
     /// It sends its packet.
     Send,
@@ -27,7 +27,7 @@ pub enum NasOutput {
 
 /// A client with one packet. Contracts see the packet, its identifier, the patience and when it was first stepped and
 /// last sent.
-#[derive(Debug, Drop)]
+#[derive(Drop)]
 pub struct Nas {
     packet: Octets,
     id: u8,

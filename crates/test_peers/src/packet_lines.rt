@@ -16,7 +16,7 @@ use wire_core::{NoMemory, Octets};
 const NOT_ONE_WORD: u32 = 2;
 
 /// Why a line names no packet (profile).
-#[derive(Clone, Copy, Debug, PartialEq, Eq)]
+#[derive(Clone, Copy, PartialEq, Eq)]
 pub enum LineFault {
     /// The first reason that stands: 1, the line has more than 140,000 octets; 2, it hasn't one word; 3, the word isn't
     /// HEX, or its octets are no packet.

@@ -20,7 +20,7 @@ const NOT_TWO_WORDS: u32 = 2;
 pub(crate) const BAD_WORD: u32 = 3;
 
 /// A user and the password that lets them in.
-#[derive(Debug, Drop)]
+#[derive(Drop)]
 pub(crate) struct User {
     pub(crate) name: Octets,
     pub(crate) password: Octets,

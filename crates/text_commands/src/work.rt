@@ -84,7 +84,7 @@ fn finish<W: Work, K: Sink>(alloc: Global, work: &mut W, line: &[u8], output: &m
 }
 
 /// Takes the input line by line to its end. Each line's text is written before the next line is read.
-pub(crate) fn run<W: Work, S: Source, K: Sink>(
+pub fn run<W: Work, S: Source, K: Sink>(
     alloc: Global,
     work: &mut W,
     input: &mut S,

@@ -1,4 +1,4 @@
--- Internal: what a reader of words answers.
+-- What a reader of words answers.
 use Rattle.std.specs.Prelude.{◌≡◌, Option, Some, None, Result, Ok, Err}
 use Rattle.transcript.specs.declared.word_fault.WordFault.{WordFault}
 use Rattle.transcript.specs.declared.word_fault.WordFault.TheVariants.{Bad, NoMemory}

@@ -1,4 +1,4 @@
--- Internal: what is borrowed, without where it lies in memory.
+-- What is borrowed, without where it lies in memory.
 use Rattle.std.specs.Prelude.{ℕ, List, map, Option}
 use Rattle.std.specs.Borrow.{Bor}
 use Rattle.std.specs.Option.{option_copied}

@@ -4,7 +4,7 @@ use std::alloc::AllocFailed;
 use wire_core::NoMemory;
 
 /// Why a transcript wasn't generated to its end.
-#[derive(Clone, Copy, Debug, PartialEq, Eq)]
+#[derive(Clone, Copy, PartialEq, Eq)]
 pub enum GenerateFault {
     /// The sink failed.
     Write,

@@ -27,8 +27,8 @@ pub(crate) fn push_digits(text: &mut Vec<u8>, octets: &[u8]) -> Result<(), Alloc
     Ok(())
 }
 
-/// A line whose last word is octets in hex, or `-` for none.
-pub(crate) fn with_hex(start: String, octets: &[u8]) -> Result<Octets, NoMemory>
+/// A line that begins so and whose last word is octets in hex, or `-` for none.
+pub fn with_hex(start: String, octets: &[u8]) -> Result<Octets, NoMemory>
     ensures { IfOk result (λ o. o ≡ string_bytes start ++ text.hex_text octets.now ++ 10 ∷ []) }
 {
     let mut text = start.into_bytes();

@@ -14,7 +14,7 @@ use wire_core::{NoMemory, Source};
 const LONGEST_LINE: usize = 140_000;
 
 /// Why there is no next line.
-#[derive(Clone, Copy, Debug, PartialEq, Eq)]
+#[derive(Clone, Copy, PartialEq, Eq)]
 pub enum RawFault {
     /// The source failed.
     Read,
@@ -26,7 +26,7 @@ pub enum RawFault {
 }
 
 /// How the next line ends.
-#[derive(Clone, Copy, Debug, PartialEq, Eq)]
+#[derive(Clone, Copy, PartialEq, Eq)]
 pub enum RawLine {
     /// By the octet 0a.
     Line,

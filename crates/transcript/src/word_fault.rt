@@ -5,7 +5,7 @@ use wire_core::NoMemory;
 
 /// Why words can't be read.
 #[derive(Clone, Copy)]
-pub(crate) enum WordFault {
+pub enum WordFault {
     /// They have another form.
     Bad,
     NoMemory,

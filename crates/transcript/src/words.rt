@@ -16,7 +16,7 @@ use std::str;
 use wire_core::{NoMemory, Octets};
 
 /// The words of a line: at least one, and empty ones are kept.
-pub(crate) fn words_of(alloc: Global, line: &[u8]) -> Result<Vec<&[u8]>, NoMemory>
+pub fn words_of(alloc: Global, line: &[u8]) -> Result<Vec<&[u8]>, NoMemory>
     ensures { IfOk result (λ found. plain found.items ≡ words.words_of line.now) }
 {
     Ok(line.split(|c| *c == b' ').collect(alloc)?)
@@ -62,7 +62,7 @@ pub fn number_in(word: &[u8], limit: u64) -> Option<u64>
 }
 
 /// A decimal number up to a limit.
-pub(crate) fn read_number(word: &[u8], limit: u64) -> Result<u64, WordFault>
+pub fn read_number(word: &[u8], limit: u64) -> Result<u64, WordFault>
     ensures exact { Reads result (words.number_word limit word.now) }
     ensures small { IfOk result (λ n. n ≤ limit) }
 {
@@ -70,7 +70,7 @@ pub(crate) fn read_number(word: &[u8], limit: u64) -> Result<u64, WordFault>
 }
 
 /// A decimal number below 2^16.
-pub(crate) fn read_u16(word: &[u8]) -> Result<u16, WordFault>
+pub fn read_u16(word: &[u8]) -> Result<u16, WordFault>
     ensures { Reads result (words.number_word 65535 word.now) }
 {
     Ok(read_number(word, u64::from(u16::MAX))? as u16)
@@ -84,14 +84,14 @@ pub(crate) fn read_u32(word: &[u8]) -> Result<u32, WordFault>
 }
 
 /// An IPv4 address.
-pub(crate) fn read_address(word: &[u8]) -> Result<u32, WordFault>
+pub fn read_address(word: &[u8]) -> Result<u32, WordFault>
     ensures { Reads result (address_in word.now) }
 {
     agent_config::read_address(word).ok_or(WordFault::Bad)
 }
 
 /// Octets in hex, or `-` for none.
-pub(crate) fn read_hex(alloc: Global, word: &[u8]) -> Result<Octets, WordFault>
+pub fn read_hex(alloc: Global, word: &[u8]) -> Result<Octets, WordFault>
     ensures { Reads result (words.hex_word word.now) }
 {
     if word == b"-".as_slice() {

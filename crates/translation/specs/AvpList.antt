@@ -1,4 +1,4 @@
--- Internal: AVPs as code keeps them.
+-- AVPs as code keeps them.
 use Rattle.std.specs.Prelude.{List, map}
 use Rattle.diameter_avp.specs.declared.avp.Avp.{Avp}
 use Rattle.diameter_avp.specs.Avps.{AvpParts}

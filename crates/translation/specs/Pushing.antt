@@ -1,4 +1,4 @@
--- Internal: a reply while attributes are pushed: what the code keeps.
+-- A reply while attributes are pushed.
 use Rattle.std.specs.Prelude.{◌≡◌, ℕ, ◌+◌, Bool, false, IsTrue, nat_le, ◌&&◌, ◌||◌, List, [], ◌∷◌, ◌++◌, length, min, if◌then◌else◌}
 use Rattle.radius_packet.specs.Packet.{AttributeParts, attributes_text}
 use Rattle.radius_packet.specs.Seals.{ReplyParts, reply_length}

@@ -6,8 +6,8 @@ ghost use Rattle.translation.specs.AvpList.{list_view};
 ghost use Rattle.translation.specs.Acceptance as specs;
 
 use crate::access_answers::{is_error, result_code};
-use crate::answer_list::read;
 use crate::answer_reading::{has_own_session, has_unknown};
+use crate::avp_list::read;
 use diameter_avp::Avp;
 use diameter_message::{Header, Message, is_success};
 use session_carrier::Kept;

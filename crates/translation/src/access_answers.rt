@@ -11,10 +11,10 @@ ghost use Rattle.translation.specs.Answers as specs;
 ghost use Rattle.translation.specs.Attempts as attempts;
 ghost use Rattle.translation.specs.declared.class.Class.TheVariants.{Bad};
 
-use crate::answer_list::{first_number, read};
 use crate::answer_reading::{
     first_identity, has_bad_payload, has_key, has_own_session, has_unknown, kind_of,
 };
+use crate::avp_list::{first_number, read};
 use crate::class::Class;
 use crate::codes::ACCESS_REJECT;
 use crate::replies::{bare_reply, reply};

@@ -9,7 +9,7 @@ ghost use Rattle.translation.specs.AvpList.{list_view};
 ghost use Rattle.translation.specs.Reading as specs;
 ghost use Rattle.tunnel_map.specs.RoundTrip as groups;
 
-use crate::answer_list::{count, first};
+use crate::avp_list::{count, first};
 use crate::class::Class;
 use crate::service::Service;
 use attribute_table::{Row, is_key, is_known};
@@ -48,14 +48,15 @@ pub(crate) fn has_own_session(list: &[Avp<'_>], session: &[u8]) -> bool
     count(list, SESSION_ID) == 1 && is_session_there(list, session)
 }
 
-pub(crate) fn is_key_avp(avp: &Avp<'_>) -> bool
+/// Whether an AVP carries a key.
+pub fn is_key_avp(avp: &Avp<'_>) -> bool
     ensures { result ≡ specs.is_key_avp (avp_view avp.now) }
 {
     is_key(avp.code, avp.vendor)
 }
 
-/// Whether an AVP of a vendor fits in an attribute.
-pub(crate) fn fits_vendor(avp: &Avp<'_>) -> bool
+/// Whether an AVP of a vendor fits in a Vendor-Specific attribute (RFC 2865, section 5.26).
+pub fn fits_vendor(avp: &Avp<'_>) -> bool
     ensures { result ≡ specs.fits_vendor (avp_view avp.now) }
 {
     avp.code <= MOST_VENDOR_TYPE && avp.body.len() <= MOST_VENDOR_VALUE
@@ -121,7 +122,7 @@ pub(crate) fn has_key(list: &[Avp<'_>]) -> bool
 }
 
 /// Whether the AVPs of a row are copied into the reply.
-pub(crate) fn goes_back(class: Class, row: &Row) -> bool
+pub fn goes_back(class: Class, row: &Row) -> bool
     ensures { result ≡ specs.goes_back class row.now }
 {
     match class {

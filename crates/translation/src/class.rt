@@ -1,8 +1,8 @@
 //! What an answer comes to.
 
 /// The class of an answer to a request for access.
-#[derive(Clone, Copy, Debug, PartialEq, Eq)]
-pub(crate) enum Class {
+#[derive(Clone, Copy, PartialEq, Eq)]
+pub enum Class {
     /// It can't be translated.
     Bad,
     Refusal,

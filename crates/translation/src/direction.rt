@@ -6,7 +6,7 @@ ghost use Rattle.translation.specs.Direction as specs;
 use attribute_table::Row;
 
 /// The packet of RADIUS that a request is made of.
-#[derive(Clone, Copy, Debug, PartialEq, Eq)]
+#[derive(Clone, Copy, PartialEq, Eq)]
 pub enum Direction {
     /// An Access-Request.
     Access,

@@ -59,8 +59,8 @@ fn put_carrier(
     writer.put_with_room(attribute.code.into(), None, true, attribute.value)
 }
 
-/// Puts the parts of a Vendor-Specific attribute, where it has them.
-fn put_parts(writer: &mut MessageWriter, value: &[u8]) -> Result<(), NoMemory>
+/// Puts the parts of a Vendor-Specific attribute, where it has them. There is room.
+pub fn put_parts(writer: &mut MessageWriter, value: &[u8]) -> Result<(), NoMemory>
     requires { length (avps_text (writer.old.avps.list ++ images.vendor_avps (vendor_parts value.now))) ≤ 65516 }
     ensures { OnOk result (writer.new ≡ with_avps writer.old (images.vendor_avps (vendor_parts value.now))) }
 {

@@ -19,7 +19,7 @@ use wire_core::get_u32;
 const MOST_PROXY_OCTETS: usize = 2048;
 
 /// What a pass over the attributes of a packet, of either code, has found to speak against it.
-#[derive(Clone, Copy, Debug)]
+#[derive(Clone, Copy)]
 pub struct Faults {
     /// Whether a NAS-IP-Address is another's.
     pub foreign: bool,

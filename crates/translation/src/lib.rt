@@ -3,8 +3,8 @@
 
 mod acceptance;
 mod access_answers;
-mod answer_list;
 mod answer_reading;
+pub mod avp_list;
 mod class;
 mod codes;
 mod direction;
@@ -24,12 +24,15 @@ mod values;
 
 pub use acceptance::is_accepted;
 pub use access_answers::answer;
+pub use answer_reading::{fits_vendor, goes_back, is_key_avp};
+pub use class::Class;
 pub use direction::{Direction, goes};
 pub use heads::{is_eap, put_auth_head};
-pub use images::put_common;
+pub use images::{put_common, put_parts};
 pub use judging::Faults;
 pub use names::put_names;
 pub use proxies::proxy_states;
+pub use pushing::{Unfit, pass_over, push, push_fitting, push_value, takes_vendors};
 pub use replies::bare_reply;
 pub use routes::{carried_class, carried_state, name_realm};
 pub use seen::Seen;

@@ -16,8 +16,8 @@ ghost use Rattle.translation.specs.Replies.{attribute, optional};
 ghost use Rattle.translation.specs.Pushing as specs;
 ghost use Rattle.translation.specs.Pushing.{Pushes};
 
-use crate::answer_list::{first, first_number};
 use crate::answer_reading::{fits_vendor, goes_back, is_bad_timeout, is_group, is_key_avp};
+use crate::avp_list::{first, first_number};
 use crate::class::Class;
 use crate::codes::{
     CLASS, EAP_MESSAGE, SESSION_TIMEOUT, STATE, TERMINATION_ACTION, VENDOR_SPECIFIC,
@@ -37,10 +37,11 @@ const MOST_VALUE: usize = 253;
 const RADIUS_REQUEST: u32 = 1;
 
 /// A value is at fault, or the packet would pass 4096 octets.
-#[derive(Clone, Copy, Debug)]
-pub(crate) struct Unfit;
+#[derive(Clone, Copy)]
+pub struct Unfit;
 
-fn push(reply: &mut Reply, code: u8, value: &[u8]) -> Result<(), Unfit>
+/// Pushes an attribute, where the packet has room for it.
+pub fn push(reply: &mut Reply, code: u8, value: &[u8]) -> Result<(), Unfit>
     requires value { length value.now ≤ 253 }
     ensures { Pushes reply.old reply.new (is_ok result) true (attribute code value.now ∷ []) }
 {
@@ -57,14 +58,14 @@ fn push_number(reply: &mut Reply, code: u8, value: u32) -> Result<(), Unfit>
 }
 
 /// Refuses a fault that can't be passed over.
-fn pass_over(must: bool) -> Result<(), Unfit>
+pub fn pass_over(must: bool) -> Result<(), Unfit>
     ensures { is_ok result ≡ not must }
 {
     if must { Err(Unfit) } else { Ok(()) }
 }
 
-/// Pushes the value that the AVP of a row has in RADIUS.
-fn push_value(reply: &mut Reply, row: &Row, body: &[u8], must: bool) -> Result<(), Unfit>
+/// Pushes the value that the AVP of a row has in RADIUS. A value at fault is passed over, or with `must` refused.
+pub fn push_value(reply: &mut Reply, row: &Row, body: &[u8], must: bool) -> Result<(), Unfit>
     requires short { reply_length reply.old ≤ 4096 }
     ensures { let image = backward_image row.now body.now in
         Pushes reply.old reply.new (is_ok result) (not (must && is_err image)) (replies.value_attributes row.now.code image) }
@@ -132,7 +133,8 @@ fn push_tunnel(
     }
 }
 
-fn takes_vendors(class: Class) -> bool
+/// Whether the reply has the attributes of vendors.
+pub fn takes_vendors(class: Class) -> bool
     ensures { result ≡ replies.takes_vendors class }
 {
     match class {
@@ -142,7 +144,7 @@ fn takes_vendors(class: Class) -> bool
 }
 
 /// Pushes the AVP of a vendor as a Vendor-Specific attribute.
-fn push_fitting(reply: &mut Reply, vendor: u32, avp: &Avp<'_>) -> Result<(), Unfit>
+pub fn push_fitting(reply: &mut Reply, vendor: u32, avp: &Avp<'_>) -> Result<(), Unfit>
     requires code { avp.now.code ≤ 255 }
     requires body { length avp.now.body.now ≤ 247 }
     ensures { Pushes reply.old reply.new (is_ok result) true (attribute 26 (replies.vendor_value vendor (avp_view avp.now)) ∷ []) }

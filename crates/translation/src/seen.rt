@@ -4,7 +4,7 @@ ghost use Rattle.std.specs.Prelude.{◌≡◌};
 ghost use Rattle.translation.specs.Passing as passing;
 
 /// What stood before an attribute.
-#[derive(Clone, Copy, Debug)]
+#[derive(Clone, Copy)]
 pub struct Seen {
     /// A State, or in accounting a Class, that carries a session.
     pub(crate) carrier: bool,

@@ -10,7 +10,7 @@ use crate::kind::{Kind, kind_of};
 pub(crate) const MOST_TAG: u8 = 31;
 
 /// A tagged attribute.
-#[derive(Clone, Copy, Debug, PartialEq, Eq)]
+#[derive(Clone, Copy, PartialEq, Eq)]
 pub struct Tagged<'a> {
     /// The tag, 0 to 31. A text that has none counts as tagged with 0.
     pub tag: u8,

@@ -12,7 +12,7 @@ use std::alloc::Global;
 use std::marker::Model;
 
 /// A source over memory that never fails.
-#[derive(Debug, Drop)]
+#[derive(Drop)]
 pub struct SteadySource {
     octets: Vec<u8>,
     place: usize,
@@ -74,7 +74,7 @@ impl Source for SteadySource {
 }
 
 /// A source over memory, some of whose reads fail.
-#[derive(Debug, Drop)]
+#[derive(Drop)]
 pub struct MemorySource {
     source: SteadySource,
     failing: Vec<usize>,
@@ -143,7 +143,7 @@ impl Source for MemorySource {
 
 /// A sink over memory that never fails. It keeps the first octets that it is given, as many as it has room
 /// for. It tells nothing of content, since no memory holds all that a sink can be given.
-#[derive(Debug, Drop)]
+#[derive(Drop)]
 pub struct SteadySink {
     octets: Vec<u8>,
     room: usize,
@@ -196,7 +196,7 @@ impl Sink for SteadySink {
 }
 
 /// A sink over memory, some of whose writes fail.
-#[derive(Debug, Drop)]
+#[derive(Drop)]
 pub struct MemorySink {
     octets: Vec<u8>,
     failing: Vec<usize>,

@@ -6,7 +6,7 @@ ghost use Rattle.wire_core.specs.Source.{GotReads, IsAtEnd, IsEnd, GotFailed};
 ghost use Rattle.wire_core.specs.Sink.{PutWrites, PutFailed};
 
 /// What a read answers.
-#[derive(Clone, Copy, Debug, PartialEq, Eq)]
+#[derive(Clone, Copy, PartialEq, Eq)]
 pub enum Got {
     /// So many octets stand at the front of the buffer. None for a buffer that isn't empty is an end.
     Bytes(usize),
@@ -17,7 +17,7 @@ pub enum Got {
 }
 
 /// What a write answers.
-#[derive(Clone, Copy, Debug, PartialEq, Eq)]
+#[derive(Clone, Copy, PartialEq, Eq)]
 pub enum Put {
     /// The whole piece was written.
     Done,

@@ -19,7 +19,7 @@ pub trait Clock {
 }
 
 /// A datagram with the place that it came from or goes to.
-#[derive(Clone, Debug, PartialEq, Eq, Drop)]
+#[derive(Clone, PartialEq, Eq, Drop)]
 pub struct Datagram {
     /// An IPv4 address.
     pub address: u32,
@@ -28,7 +28,7 @@ pub struct Datagram {
 }
 
 /// What a look at a socket found.
-#[derive(Clone, Copy, Debug, PartialEq, Eq)]
+#[derive(Clone, Copy, PartialEq, Eq)]
 pub enum Took {
     /// A datagram, of which the first `length` octets stand at the front of the buffer. What doesn't fit is lost.
     From {
@@ -62,7 +62,7 @@ pub trait Datagrams {
 }
 
 /// What a look at a link found.
-#[derive(Clone, Copy, Debug, PartialEq, Eq)]
+#[derive(Clone, Copy, PartialEq, Eq)]
 pub enum LinkGot {
     /// So many octets stand at the front of the buffer. None counts as an end.
     Bytes(usize),

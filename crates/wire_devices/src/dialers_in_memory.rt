@@ -13,7 +13,7 @@ use std::collections::VecDeque;
 use std::marker::Model;
 
 /// What a link that never fails is made of.
-#[derive(Debug, Drop)]
+#[derive(Drop)]
 pub struct SteadyLine {
     octets: Vec<u8>,
     looks: VecDeque<usize>,
@@ -50,7 +50,7 @@ impl SteadyLine {
 }
 
 /// A dialer over memory that never fails.
-#[derive(Debug, Drop)]
+#[derive(Drop)]
 pub struct SteadyDialer {
     alloc: Global,
     lines: VecDeque<SteadyLine>,
@@ -108,7 +108,7 @@ impl Dialer for SteadyDialer {
 }
 
 /// What a link is made of, some of whose calls fail.
-#[derive(Debug, Drop)]
+#[derive(Drop)]
 pub struct Line {
     line: SteadyLine,
     failing_receives: Vec<usize>,
@@ -143,7 +143,7 @@ impl Line {
 }
 
 /// A dialer over memory, some of whose dials fail.
-#[derive(Debug, Drop)]
+#[derive(Drop)]
 pub struct MemoryDialer {
     alloc: Global,
     lines: VecDeque<Line>,

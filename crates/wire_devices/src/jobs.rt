@@ -28,7 +28,7 @@ pub trait Job: Send + Drop + 'static {
 }
 
 /// Shows that a start was refused. `Crew::start` alone makes it, so nothing else can raise a crew's count.
-#[derive(Clone, Copy, Debug)]
+#[derive(Clone, Copy)]
 pub struct RefusedStart(());
 
 /// Runs jobs beside each other.

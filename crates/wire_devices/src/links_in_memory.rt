@@ -12,7 +12,7 @@ use std::marker::Model;
 use wire_core::Put;
 
 /// The end of a link over memory that octets come from, which never fails.
-#[derive(Debug, Drop)]
+#[derive(Drop)]
 pub struct SteadyLinkIn {
     octets: Vec<u8>,
     place: usize,
@@ -95,7 +95,7 @@ fn is_quiet(look: Option<usize>) -> bool
 }
 
 /// The end of a link over memory that octets come from, some of whose receives fail.
-#[derive(Debug, Drop)]
+#[derive(Drop)]
 pub struct MemoryLinkIn {
     link: SteadyLinkIn,
     receives: CallPlan,
@@ -143,7 +143,7 @@ impl LinkIn for MemoryLinkIn {
 
 /// The end of a link over memory that octets go to, which never fails. It keeps what it is handed, and tells it as long
 /// as it has room, or memory for more.
-#[derive(Debug, Drop)]
+#[derive(Drop)]
 pub struct SteadyLinkOut {
     octets: Vec<u8>,
     is_told: bool,
@@ -218,7 +218,7 @@ impl LinkOut for SteadyLinkOut {
 }
 
 /// The end of a link over memory that octets go to, some of whose sends fail. Such a send takes the first half.
-#[derive(Debug, Drop)]
+#[derive(Drop)]
 pub struct MemoryLinkOut {
     link: SteadyLinkOut,
     sends: CallPlan,

@@ -8,7 +8,7 @@ use std::collections::VecDeque;
 use std::marker::Model;
 
 /// The numbers of the calls that are to fail, counted from 0.
-#[derive(Debug, Drop)]
+#[derive(Drop)]
 pub(crate) struct CallPlan {
     failing: Vec<usize>,
     calls: usize,

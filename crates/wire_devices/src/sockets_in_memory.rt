@@ -14,7 +14,7 @@ use wire_core::{NoMemory, Octets, Put};
 
 /// A socket over memory that never fails. It keeps what it received and what it was handed, and tells each of them as
 /// long as there is memory to keep it.
-#[derive(Debug, Drop)]
+#[derive(Drop)]
 pub struct SteadyDatagrams {
     alloc: Global,
     looks: VecDeque<Option<Datagram>>,
@@ -167,7 +167,7 @@ fn with_one_more(
 }
 
 /// A socket over memory, some of whose calls fail.
-#[derive(Debug, Drop)]
+#[derive(Drop)]
 pub struct MemoryDatagrams {
     socket: SteadyDatagrams,
     receives: CallPlan,

@@ -11,7 +11,7 @@ use std::rt;
 use std::time::Duration;
 
 /// A clock of these moments, the last of which is repeated. It tells its readings as long as they can be counted.
-#[derive(Debug, Drop)]
+#[derive(Drop)]
 pub struct MemoryClock {
     moments: Vec<u64>,
     reads: Option<u64>,

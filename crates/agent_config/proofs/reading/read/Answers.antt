@@ -1,8 +1,8 @@
 use Rattle.std.proofs.Common.{◌≡◌, ◌≢◌, Result, Ok, Err, IfOk, IfErr, true≢false, sym, subst, ◌∙◌}
 use Rattle.toml.specs.View.{table_view}
 use Rattle.agent_settings.specs.declared.config.Config.{Config}
-use Rattle.agent_config.specs.declared.fault.ConfigFault.{ConfigFault}
-use Rattle.agent_config.specs.declared.fault.ConfigFault.TheVariants.{NoMemory}
+use Rattle.agent_settings.specs.declared.fault.ConfigFault.{ConfigFault}
+use Rattle.agent_settings.specs.declared.fault.ConfigFault.TheVariants.{NoMemory}
 use Rattle.agent_config.proofs.FaultLemmas.{read-settled, read-none}
 use Rattle.agent_config.proofs.reading.read.Goals as goal
 

@@ -6,7 +6,7 @@ use Rattle.std.proofs.lemmas.List.{take_rest}
 use Rattle.hmac_md5.specs.Hmac.{hmac_of}
 use Rattle.wire_core.specs.Numbers.{octets_at}
 use Rattle.radius_packet.specs.Packet.{AttributeParts, PacketParts, attributes_text, attributes_in}
-use Rattle.radius_packet.specs.Checks.{is_seal, seal_of, SealAt}
+use Rattle.radius_packet.specs.Checks.{is_seal, seal_of, SealAt, with_authenticator}
 use Rattle.radius_packet.specs.declared.checking.Seal.TheVariants.{Right, Wrong}
 use Rattle.radius_packet.proofs.Reading.{attributes_in-text}
 use Rattle.radius_packet.proofs.SealTests.{size_at, room_at, after_at, wrong_size, another, alone}
@@ -45,16 +45,19 @@ has_seal-requires c =
 pub returns-then-end-place : goal.returns-then-end-place
 returns-then-end-place c = λ p s.
     elim c.then-end-place.branch [
-      | then-end-place-via-then-end-place w ↦ wrong_size _ _ p _ s (λ e. w.if-end-place.true (ap (λ n. c.args.place + n) (size_at _ _ _ s ∙ ap (λ n. n + 2) e)))
+      | then-end-place-via-then-end-place w ↦ wrong_size _ _ _ p _ s (λ e. w.if-end-place.true (ap (λ n. c.args.place + n) (size_at _ _ _ s ∙ ap (λ n. n + 2) e)))
       | then-end-place-via-else-end-place+then-has_seal w ↦
           let text = after_at _ _ _ _ s (ap (λ n. c.args.place + n) (size_at _ _ _ s)) in
-          another _ _ p _ s (ap (λ xs. list_any is_seal xs) (sym (ap attributes_in text ∙ attributes_in-text s.after)) ∙ rw take_rest at (sym w.has_seal.ensures) ∙ w.if-has_seal.true)
+          another _ _ _ p _ s (ap (λ xs. list_any is_seal xs) (sym (ap attributes_in text ∙ attributes_in-text s.after)) ∙ rw take_rest at (sym w.has_seal.ensures) ∙ w.if-has_seal.true)
     ]
 
 pub seal_with_zeros-requires : goal.seal_with_zeros-requires
 seal_with_zeros-requires c =
     let s = c.requires.1 in
-    omega (arith, room_at _ _ _ s, size_at _ _ _ s)
+    record {
+      behind = omega (arith, s.place_is);
+      inside = omega (arith, room_at _ _ _ s, size_at _ _ _ s);
+    }
 
 pub slice_bounds-value-end : goal.slice_bounds-value-end
 slice_bounds-value-end c =
@@ -73,25 +76,25 @@ none_after octets p place octet s e b is found =
     ap (λ (xs : List AttributeParts). list_any is_seal xs) (sym (ap attributes_in text ∙ attributes_in-text s.after)) ∙ rw take_rest at (sym found) ∙ is
 
 -- what the comparison says
-said : (octets value with_zeros secret : List ℕ) (p : PacketParts) (place count : ℕ) (s : SealAt octets p place) (b : Bool) → list_any is_seal s.after ≡ false → length s.value ≡ 16
-    → count ≡ 16 → value ≡ with_zeros → with_zeros ≡ hmac_of secret (take (place + 2) octets ++ replicate 16 0 ++ drop (place + 2 + 16) octets)
-    → b ≡ pointwise nat_eq (take count (drop (place + 2) octets)) value → cond b Right Wrong ≡ seal_of secret p
-said octets value with_zeros secret p place count s b none size e same is found =
-    let at : place + 2 + 16 ≡ place + 18 = omega arith in
+said : (octets a value with_zeros secret : List ℕ) (p : PacketParts) (place count : ℕ) (s : SealAt octets p place) (b : Bool) → list_any is_seal s.after ≡ false → length s.value ≡ 16
+    → count ≡ 16 → value ≡ with_zeros
+    → with_zeros ≡ hmac_of secret (take 4 octets ++ a ++ octets_at octets 20 (place + 2 - 20) ++ replicate 16 0 ++ drop (place + 2 + 16) octets)
+    → b ≡ pointwise nat_eq (take count (drop (place + 2) octets)) value → cond b Right Wrong ≡ seal_of secret (with_authenticator a p)
+said octets a value with_zeros secret p place count s b none size e same is found =
     ap (λ (r : Bool). cond r Right Wrong) (found ∙ ap (λ (n : ℕ). pointwise nat_eq (take n (drop (place + 2) octets)) value) e
-    ∙ ap (λ (xs : List ℕ). pointwise nat_eq (octets_at octets (place + 2) 16) xs) (same ∙ is ∙ ap (λ (n : ℕ). hmac_of secret (take (place + 2) octets ++ replicate 16 0 ++ drop n octets)) at))
-    ∙ alone secret octets p place s none size
+    ∙ ap (λ (xs : List ℕ). pointwise nat_eq (octets_at octets (place + 2) 16) xs) (same ∙ is))
+    ∙ alone secret octets a p place s none size
 
 pub returns-then-are_equal : goal.returns-then-are_equal
 returns-then-are_equal c = λ p s.
     let octet = size_at _ _ _ s in
     ap (λ (b : Bool). cond b Right Wrong) (sym c.if-are_equal.true)
-    ∙ said c.args.octets.now c.seal_with_zeros.result c.seal_with_zeros.result c.args.secret.now p c.args.place _ s c.are_equal.result (none_after _ p _ _ s octet c.has_seal.result c.if-has_seal.false c.has_seal.ensures)
+    ∙ said c.args.octets.now c.args.authenticator.now c.seal_with_zeros.result c.seal_with_zeros.result c.args.secret.now p c.args.place _ s c.are_equal.result (none_after _ p _ _ s octet c.has_seal.result c.if-has_seal.false c.has_seal.ensures)
     (sixteen c.args.place _ _ octet c.if-end-place.false) (omega arith) refl c.seal_with_zeros.ensures c.are_equal.ensures
 
 pub returns-else-are_equal : goal.returns-else-are_equal
 returns-else-are_equal c = λ p s.
     let octet = size_at _ _ _ s in
     ap (λ (b : Bool). cond b Right Wrong) (sym c.if-are_equal.false)
-    ∙ said c.args.octets.now c.seal_with_zeros.result c.seal_with_zeros.result c.args.secret.now p c.args.place _ s c.are_equal.result (none_after _ p _ _ s octet c.has_seal.result c.if-has_seal.false c.has_seal.ensures)
+    ∙ said c.args.octets.now c.args.authenticator.now c.seal_with_zeros.result c.seal_with_zeros.result c.args.secret.now p c.args.place _ s c.are_equal.result (none_after _ p _ _ s octet c.has_seal.result c.if-has_seal.false c.has_seal.ensures)
     (sixteen c.args.place _ _ octet c.if-end-place.false) (omega arith) refl c.seal_with_zeros.ensures c.are_equal.ensures

@@ -1,37 +1,14 @@
-use Rattle.std.proofs.Common.{◌≡◌, ◌+◌, List, Some, ap, sym, refl, ◌∙◌, arith}
-use Rattle.radius_packet.specs.Packet.{AttributeParts}
-use Rattle.radius_packet.specs.Checks.{seal_place, SealAt}
-use Rattle.radius_packet.proofs.SealTests.{seal_at, room_at, absent, right_is, is_right}
+use Rattle.std.proofs.Common.{ℕ, List, ap, sym, ◌∙◌}
+use Rattle.radius_packet.specs.Checks.{seal_of, with_authenticator}
+use Rattle.radius_packet.proofs.SealTests.{right_is, is_right}
 use Rattle.radius_packet.proofs.received.Packet.check_seal.Goals as goal
 
--- the first seal stands there
-first : (c : goal.After-whole) → SealAt c.whole.result.now c.args.self.now (20 + c.in-Some.before)
-first c =
-    let place : seal_place c.args.self.now.attributes 0 ≡ Some c.in-Some.before =
-    ap (λ (list : List AttributeParts). seal_place list 0) (sym c.attributes.ensures.value) ∙ sym c.octets_before_seal.ensures ∙ c.in-Some.is in
-    seal_at c.whole.result.now c.args.self.now c.in-Some.before (20 + c.in-Some.before) c.whole.ensures.packet place refl
+pub returns-clause-exact : goal.returns-clause-exact
+returns-clause-exact c =
+    c.check_seal_with.ensures ∙ ap (λ (a : List ℕ). seal_of c.args.secret.now (with_authenticator a c.args.self.now)) c.authenticator.ensures
 
-pub overflow_add-before : goal.overflow_add-before
-overflow_add-before c = let s = first c in omega (arith, room_at _ _ _ s, s.packet.most)
+pub returns-clause-right : goal.returns-clause-right
+returns-clause-right c = λ e. right_is _ _ (sym (returns-clause-exact c) ∙ e)
 
-pub test_seal-requires : goal.test_seal-requires
-test_seal-requires c = (c.args.self.now, first c)
-
-pub returns-in-Some-clause-exact : goal.returns-in-Some-clause-exact
-returns-in-Some-clause-exact c =
-    let place : seal_place c.args.self.now.attributes 0 ≡ Some c.in-Some.before =
-    ap (λ (list : List AttributeParts). seal_place list 0) (sym c.attributes.ensures.value) ∙ sym c.octets_before_seal.ensures ∙ c.in-Some.is in
-    c.test_seal.ensures c.args.self.now (seal_at c.whole.result.now c.args.self.now c.in-Some.before (20 + c.in-Some.before) c.whole.ensures.packet place refl)
-
-pub returns-in-Some-clause-right : goal.returns-in-Some-clause-right
-returns-in-Some-clause-right c = λ e. right_is _ _ (sym (returns-in-Some-clause-exact c) ∙ e)
-
-pub returns-in-Some-clause-only : goal.returns-in-Some-clause-only
-returns-in-Some-clause-only c = λ r. returns-in-Some-clause-exact c ∙ is_right _ _ r
-
-pub returns-in-None-clause-exact : goal.returns-in-None-clause-exact
-returns-in-None-clause-exact c =
-    absent c.args.secret.now c.args.self.now (ap (λ (list : List AttributeParts). seal_place list 0) (sym c.attributes.ensures.value) ∙ sym c.octets_before_seal.ensures ∙ c.in-None.is)
-
-pub returns-in-None-clause-only : goal.returns-in-None-clause-only
-returns-in-None-clause-only c = λ r. returns-in-None-clause-exact c ∙ is_right _ _ r
+pub returns-clause-only : goal.returns-clause-only
+returns-clause-only c = λ r. returns-clause-exact c ∙ is_right _ _ r

@@ -1,4 +1,4 @@
-//! The AVPs of an answer, read once.
+//! AVPs, read once into a list.
 
 ghost use Rattle.std.specs.Prelude.{◌≡◌, find, count_by, option_map, IfOk};
 ghost use Rattle.std.specs.Result.{result_ok};
@@ -16,7 +16,7 @@ use wire_core::NoMemory;
 const FIRST_ROOM: usize = 16;
 
 /// The AVPs in order. None where they can't be read.
-pub(crate) fn read<'a>(alloc: Global, octets: &'a [u8]) -> Result<Option<Vec<Avp<'a>>>, NoMemory>
+pub fn read<'a>(alloc: Global, octets: &'a [u8]) -> Result<Option<Vec<Avp<'a>>>, NoMemory>
     ensures { IfOk result (λ found. option_map (λ list. list_view list.items) found ≡ result_ok (read_avps octets.now)) }
 {
     let mut list = Vec::with_capacity(alloc, FIRST_ROOM)?;
@@ -30,21 +30,21 @@ pub(crate) fn read<'a>(alloc: Global, octets: &'a [u8]) -> Result<Option<Vec<Avp
 }
 
 /// The first AVP of this code.
-pub(crate) fn first<'a>(list: &[Avp<'a>], code: u32) -> Option<Avp<'a>>
+pub fn first<'a>(list: &[Avp<'a>], code: u32) -> Option<Avp<'a>>
     ensures { option_map avp_view result ≡ find (finding.has_code code) (list_view list.now) }
 {
     list.iter().find(|a| has_code(a, code)).copied()
 }
 
 /// How many AVPs of this code there are.
-pub(crate) fn count(list: &[Avp<'_>], code: u32) -> usize
+pub fn count(list: &[Avp<'_>], code: u32) -> usize
     ensures { result ≡ count_by (finding.has_code code) (list_view list.now) }
 {
     list.iter().filter(|a| has_code(a, code)).count()
 }
 
 /// The number in the first AVP of this code that has four octets.
-pub(crate) fn first_number(list: &[Avp<'_>], code: u32) -> Option<u32>
+pub fn first_number(list: &[Avp<'_>], code: u32) -> Option<u32>
     ensures { result ≡ finding.first_number code (list_view list.now) }
 {
     for avp in list {

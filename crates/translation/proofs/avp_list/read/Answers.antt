@@ -4,7 +4,7 @@ use Rattle.std.proofs.lemmas.List.{append-nil}
 use Rattle.diameter_avp.specs.Avps.{avps_fault, readable_avps}
 use Rattle.diameter_avp.proofs.CallerLemmas.{read_avps-none, read_avps-some}
 use Rattle.translation.specs.AvpList.{list_view}
-use Rattle.translation.proofs.answer_list.read.Goals as goal
+use Rattle.translation.proofs.avp_list.read.Goals as goal
 
 pub returns-in_default : goal.returns-in_default
 returns-in_default c =

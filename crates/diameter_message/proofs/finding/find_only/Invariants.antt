@@ -1,8 +1,8 @@
 use Rattle.std.proofs.Common.{◌≡◌, None}
 use Rattle.std.specs.Prelude.{option_copied}
 use Rattle.diameter_avp.specs.Avps.{avp_items}
-use Rattle.session_book.proofs.ReadingLemmas.{only_after}
-use Rattle.session_book.proofs.reading.only.Given as goal
+use Rattle.diameter_message.proofs.OnlyLemmas.{only_after}
+use Rattle.diameter_message.proofs.finding.find_only.Given as goal
 
 -- what was found, and what is left
 abbrev pub invariant-loop-item : goal.invariant-loop-item

@@ -2,7 +2,7 @@ use Rattle.std.proofs.Common.{◌≡◌, ◌++◌}
 use Rattle.std.specs.Result.{ok_prefix}
 use Rattle.diameter_avp.specs.Avps.{fault_of, avps_fault, readable_avps}
 use Rattle.translation.specs.AvpList.{list_view}
-use Rattle.translation.proofs.answer_list.read.Given as goal
+use Rattle.translation.proofs.avp_list.read.Given as goal
 
 -- what is left has the list's fault, and stands behind what was read
 abbrev pub invariant-loop-item : goal.invariant-loop-item

@@ -5,7 +5,7 @@ use Rattle.std.proofs.lemmas.Iterator.Search.{find_from_yields_List}
 use Rattle.diameter_avp.specs.View.{avp_view}
 use Rattle.diameter_message.specs.Finding.{has_code}
 use Rattle.translation.proofs.AvpLists.{find_viewed}
-use Rattle.translation.proofs.answer_list.first.Goals as goal
+use Rattle.translation.proofs.avp_list.first.Goals as goal
 
 pub returns : goal.returns
 returns c =

@@ -3,8 +3,7 @@ use Rattle.std.proofs.Common.{◌≡◌, ℕ, Bool, true, false, cond, List, [],
 use Rattle.std.specs.Result.{ok_prefix}
 use Rattle.diameter_avp.specs.Avps.{AvpParts, avp_items, fault_of, unless_fault, read_avps}
 use Rattle.diameter_avp.specs.declared.fault.AvpFault.{AvpFault}
-use Rattle.diameter_message.specs.Finding.{has_code}
-use Rattle.session_book.specs.Reading.{only_body, only_in}
+use Rattle.diameter_message.specs.Finding.{has_code, only_body, only_in}
 
 -- what a list with these items left gives, where this was found before
 abbrev pub only_after : ℕ → Option (List ℕ) → List (Result AvpParts AvpFault) → Option (List ℕ)

@@ -20,7 +20,7 @@ pub enum ConfigFault {
 
 impl From<NoMemory> for ConfigFault {
     ghost use Rattle.std.specs.Prelude.{◌≡◌};
-    ghost use Rattle.agent_config.specs.declared.fault.ConfigFault.TheVariants as faults;
+    ghost use Rattle.agent_settings.specs.declared.fault.ConfigFault.TheVariants as faults;
 
     ghost from_gives = { λ _ e. e ≡ faults.NoMemory };
 
@@ -31,7 +31,7 @@ impl From<NoMemory> for ConfigFault {
 
 impl<T: Drop> From<AllocFailed<T>> for ConfigFault {
     ghost use Rattle.std.specs.Prelude.{◌≡◌};
-    ghost use Rattle.agent_config.specs.declared.fault.ConfigFault.TheVariants as faults;
+    ghost use Rattle.agent_settings.specs.declared.fault.ConfigFault.TheVariants as faults;
 
     ghost from_gives = { λ _ e. e ≡ faults.NoMemory };
 
