@@ -8,13 +8,14 @@ use Rattle.transcript.specs.Words.{lines_of}
 use Rattle.dynamic_command.specs.Dynamic.{dynamic_task}
 use Rattle.replay_command.specs.Measured.{MeasuresBy}
 use Rattle.replay_command.specs.Replay.{replay_task}
+use Rattle.reverse_script.specs.Printed.{reverse_task}
 use Rattle.text_commands.specs.Checks.{ChecksBy}
 use Rattle.text_commands.specs.Generated.{GeneratesBy, WriteCounts}
 use Rattle.text_commands.specs.Shown.{show_task}
 use Rattle.text_commands.specs.Tasks.{EndsBy, EndsCounts, Task}
 use Rattle.text_commands.specs.WholeInput.{most_whole}
 use Rattle.agent_tool.specs.declared.command.TextCommand.{TextCommand}
-use Rattle.agent_tool.specs.declared.command.TextCommand.TheVariants.{Replay, Dynamic, Check, Show, Generate, Measure}
+use Rattle.agent_tool.specs.declared.command.TextCommand.TheVariants.{Replay, Dynamic, Reverse, Check, Show, Generate, Measure}
 use Rattle.agent_tool.specs.declared.command.Command.{Command}
 use Rattle.agent_tool.specs.declared.command.Command.TheVariants.{Text, Run}
 
@@ -26,6 +27,7 @@ EndsOver told P = (input : List ℕ) → told ≡ Some input → P input
 abbrev pub EndsAs : TextCommand → Status → Option (List ℕ) → Option (List ℕ) → Option (List ℕ) → Option (List ℕ) → Type 0
 EndsAs Replay status told left before now = EndsOver told (λ input. EndsBy replay_task status input left before now)
 EndsAs Dynamic status told left before now = EndsOver told (λ input. EndsBy dynamic_task status input left before now)
+EndsAs Reverse status told left before now = EndsOver told (λ input. EndsBy reverse_task status input left before now)
 EndsAs Check status told left before now = EndsOver told (λ input. ChecksBy status input left before now)
 EndsAs Show status told left before now = EndsOver told (λ input. EndsBy show_task status input left before now)
 EndsAs (Generate count seed) status told left before now = GeneratesBy status count seed before now
@@ -35,6 +37,7 @@ EndsAs (Measure count seed) status told left before now = MeasuresBy status coun
 abbrev pub CountsAs : TextCommand → Status → ℕ → ℕ → ℕ → ℕ → ℕ → ℕ → Type 0
 CountsAs Replay status ends ends' reads reads' writes writes' = EndsCounts status ends ends' reads reads' writes writes'
 CountsAs Dynamic status ends ends' reads reads' writes writes' = EndsCounts status ends ends' reads reads' writes writes'
+CountsAs Reverse status ends ends' reads reads' writes writes' = EndsCounts status ends ends' reads reads' writes writes'
 CountsAs Check status ends ends' reads reads' writes writes' = EndsCounts status ends ends' reads reads' writes writes'
 CountsAs Show status ends ends' reads reads' writes writes' = EndsCounts status ends ends' reads reads' writes writes'
 CountsAs (Generate count seed) status ends ends' reads reads' writes writes' = WriteCounts status writes writes'
@@ -44,6 +47,7 @@ CountsAs (Measure count seed) status ends ends' reads reads' writes writes' = Wr
 abbrev pub text_reads : TextCommand → Bool
 text_reads Replay = true
 text_reads Dynamic = true
+text_reads Reverse = true
 text_reads Check = true
 text_reads Show = true
 text_reads (Generate count seed) = false
@@ -69,6 +73,7 @@ pub record SoundSettings (input : List ℕ) : Type 0 where
 abbrev pub IsSound : TextCommand → List ℕ → Type 0
 IsSound Replay input = SoundLines replay_task input
 IsSound Dynamic input = SoundLines dynamic_task input
+IsSound Reverse input = SoundLines reverse_task input
 IsSound Check input = SoundSettings input
 IsSound Show input = SoundLines show_task input
 IsSound (Generate count seed) input = Unit {0}

@@ -6,7 +6,7 @@ use Rattle.transcript.specs.Words.{◌>>=◌, number_word}
 use Rattle.agent_tool.specs.declared.command.Places.{Places}
 use Rattle.agent_tool.specs.declared.command.Places.TheVariants as places
 use Rattle.agent_tool.specs.declared.command.TextCommand.{TextCommand}
-use Rattle.agent_tool.specs.declared.command.TextCommand.TheVariants.{Replay, Dynamic, Check, Show, Generate, Measure}
+use Rattle.agent_tool.specs.declared.command.TextCommand.TheVariants.{Replay, Dynamic, Reverse, Check, Show, Generate, Measure}
 use Rattle.agent_tool.specs.declared.command.Command.{Command}
 use Rattle.agent_tool.specs.declared.command.Command.TheVariants.{Text, Run}
 
@@ -17,6 +17,7 @@ abbrev pub command_named : List ℕ → Option TextCommand
 command_named word =
     if bytes_eq word (codes "replay") then Some Replay
     else if bytes_eq word (codes "dynamic") then Some Dynamic
+    else if bytes_eq word (codes "reverse") then Some Reverse
     else if bytes_eq word (codes "check") then Some Check
     else if bytes_eq word (codes "show") then Some Show
     else None
@@ -77,8 +78,8 @@ serve_command word address auth acct peer port millis =
 
 -- ---- all words
 
--- replay, dynamic, check, show, generate COUNT SEED, measure COUNT SEED, home ADDRESS PORT MILLIS, nas ADDRESS PORT MILLIS, or
--- serve ADDRESS AUTH ACCT PEER PEERPORT MILLIS
+-- replay, dynamic, reverse, check, show, generate COUNT SEED, measure COUNT SEED, home ADDRESS PORT MILLIS,
+-- nas ADDRESS PORT MILLIS, or serve ADDRESS AUTH ACCT PEER PEERPORT MILLIS
 abbrev pub command_of : List (String Global) → Option Command
 command_of (word ∷ []) = option_map (λ c. Text c) (command_named (string_bytes word))
 command_of (word ∷ count ∷ seed ∷ []) =
@@ -105,6 +106,7 @@ pub record CanGenerate (count : ℕ) : Type 0 where
 abbrev pub IsSized : TextCommand → Type 0
 IsSized Replay = Unit {0}
 IsSized Dynamic = Unit {0}
+IsSized Reverse = Unit {0}
 IsSized Check = Unit {0}
 IsSized Show = Unit {0}
 IsSized (Generate count seed) = CanGenerate count

@@ -25,6 +25,7 @@ use agent_status::Status;
 use dynamic_command::dynamic;
 use peer_runs::Place;
 use replay_command::{measure, replay};
+use reverse_script::reverse;
 use std::alloc::Global;
 use std::hash::RandomState;
 use std::sync::Wait;
@@ -53,6 +54,7 @@ fn run_text<S: Source, K: Sink>(
     match command {
         TextCommand::Replay => replay(alloc, random, input, output),
         TextCommand::Dynamic => dynamic(alloc, random, input, output),
+        TextCommand::Reverse => reverse(alloc, input, output),
         TextCommand::Check => check(alloc, input, output),
         TextCommand::Show => show(alloc, input, output),
         TextCommand::Generate { count, seed } => generate(alloc, count, seed, output),

@@ -38,6 +38,8 @@ pub(crate) enum TextCommand {
     Replay,
     /// A replay with a book of sessions beside the agent.
     Dynamic,
+    /// A script of Diameter requests for a RADIUS server.
+    Reverse,
     Check,
     Show,
     /// A transcript of so many logins, by this seed.
@@ -68,6 +70,7 @@ fn command_named(word: &str) -> Option<TextCommand>
     match word {
         "replay" => Some(TextCommand::Replay),
         "dynamic" => Some(TextCommand::Dynamic),
+        "reverse" => Some(TextCommand::Reverse),
         "check" => Some(TextCommand::Check),
         "show" => Some(TextCommand::Show),
         _ => None,

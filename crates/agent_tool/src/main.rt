@@ -32,6 +32,7 @@ use wire_devices::{
 const USAGE: &str = "\
 usage: agent replay < TRANSCRIPT
        agent dynamic < TRANSCRIPT
+       agent reverse < SCRIPT
        agent check < SETTINGS
        agent show < LINES
        agent generate LOGINS SEED
@@ -51,6 +52,10 @@ replies, messages and drops there were.
 dynamic does the same with a book of sessions beside the agent: where the home server ends a session that is in the
 book, by an Abort-Session-Request, a Disconnect-Request goes to the session's access server. Its packets come in as
 lines 'MOMENT control ADDRESS PORT HEX', and at last the Disconnect-Requests are counted too.
+
+reverse reads a script: a line 'reverse HOST REALM SERVER PORT SECRET RETENTION', and then Diameter requests that a RADIUS
+server is to answer, its replies, and ticks. It prints the packets for the server and the Diameter answers, after the
+number of their line, and at last how many packets, answers and drops there were.
 
 check reads settings, a TOML document of at most 2^20 octets, and prints them as lines of a transcript, or says which
 key is wrong: of the client of this number, or of the top table, which is 0.
@@ -91,6 +96,19 @@ fn status_without_words(error: &io::Error) -> Status {
     }
 }
 
+/// The lines that may stand where one of another form was.
+fn lines_wanted(command: TextCommand, line: u64) -> &'static str {
+    match command {
+        TextCommand::Show => "expected 'radius HEX' or 'diameter HEX'",
+        TextCommand::Reverse if line == 1 => "expected a reverse line",
+        TextCommand::Reverse => "expected a request, reply or tick line",
+        _ if line == 1 => "expected an agent line",
+        TextCommand::Dynamic =>
+            "expected an event or control line, or a client line before all events",
+        _ => "expected an event line, or a client line before all events",
+    }
+}
+
 /// What was wanted in place of a bad line of the command's input.
 fn wanted(command: Option<Command>, line: u64, reason: u32) -> &'static str {
     match (reason, command) {
@@ -105,24 +123,7 @@ fn wanted(command: Option<Command>, line: u64, reason: u32) -> &'static str {
             ),
         ) => "expected 'NAME HEX'",
         (2, Some(Command::Run { .. })) => "expected one word of HEX",
-        (
-            2,
-            Some(
-                Command::Text {
-                    command: TextCommand::Show,
-                },
-            ),
-        ) => { "expected 'radius HEX' or 'diameter HEX'" }
-        (2, _) if line == 1 => "expected an agent line",
-        (
-            2,
-            Some(
-                Command::Text {
-                    command: TextCommand::Dynamic,
-                },
-            ),
-        ) => { "expected an event or control line, or a client line before all events" }
-        (2, _) => "expected an event line, or a client line before all events",
+        (2, Some(Command::Text { command })) => lines_wanted(command, line),
         (
             3,
             Some(

@@ -13,6 +13,8 @@ mod fixtures;
 #[cfg(test)]
 mod maps;
 #[cfg(test)]
+mod reverses;
+#[cfg(test)]
 mod sessions;
 #[cfg(test)]
 mod translations;

@@ -1,0 +1,16 @@
+pub mod WindowLemmas
+pub mod QueueLemmas
+pub mod KeptLemmas
+pub mod IndexLemmas
+pub mod LedgerLemmas
+pub mod KnownLemmas
+pub mod ConsiderLemmas
+pub mod WindowSteps
+pub mod ReplyLemmas
+pub mod Opening
+pub mod Taking
+pub mod Simulation
+pub mod Members
+pub mod Spoken
+pub mod LawLemmas
+pub mod AnswerLemmas

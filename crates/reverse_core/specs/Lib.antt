@@ -1,0 +1,12 @@
+pub mod Keys
+pub mod KeyLaws
+pub mod Reasons
+pub mod Requests
+pub mod Places
+pub mod History
+pub mod Standing
+pub mod Laws
+pub mod Windows
+pub mod State
+pub mod Considering
+pub mod Ticking

@@ -1,0 +1,12 @@
+-- The octets ask what their message asks.
+use Rattle.diameter_message.specs.View.{message_view}
+use Rattle.reverse_map.proofs.AskedLemmas.{asked-message}
+use Rattle.reverse_map.proofs.answers.refuse.Goals as goal
+
+pub returns-clause-exact : goal.returns-clause-exact
+returns-clause-exact c = λ q e.
+    c.refusal.ensures.exact q (asked-message c.args.request.now (message_view c.in-Ok.message) q c.in-Ok.ensures.exact e)
+
+pub returns-clause-message : goal.returns-clause-message
+returns-clause-message c = λ q e.
+    c.refusal.ensures.message q (asked-message c.args.request.now (message_view c.in-Ok.message) q c.in-Ok.ensures.exact e)

@@ -1,0 +1,3 @@
+pub mod Script
+pub mod Printed
+pub mod Running
