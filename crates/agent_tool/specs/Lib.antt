@@ -1,4 +1,1 @@
-pub mod PeerEnds
-pub mod Serves
 pub mod TextEnds
-pub mod Words

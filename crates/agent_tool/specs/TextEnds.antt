@@ -14,10 +14,10 @@ use Rattle.text_commands.specs.Generated.{GeneratesBy, WriteCounts}
 use Rattle.text_commands.specs.Shown.{show_task}
 use Rattle.text_commands.specs.Tasks.{EndsBy, EndsCounts, Task}
 use Rattle.text_commands.specs.WholeInput.{most_whole}
-use Rattle.agent_tool.specs.declared.command.TextCommand.{TextCommand}
-use Rattle.agent_tool.specs.declared.command.TextCommand.TheVariants.{Replay, Dynamic, Reverse, Check, Show, Generate, Measure}
-use Rattle.agent_tool.specs.declared.command.Command.{Command}
-use Rattle.agent_tool.specs.declared.command.Command.TheVariants.{Text, Run}
+use Rattle.command_line.specs.declared.command.TextCommand.{TextCommand}
+use Rattle.command_line.specs.declared.command.TextCommand.TheVariants.{Replay, Dynamic, Reverse, Check, Show, Generate, Measure}
+use Rattle.command_line.specs.declared.command.Command.{Command}
+use Rattle.command_line.specs.declared.command.Command.TheVariants.{Text, Run}
 
 -- how a command ends that reads this input, where the source tells it
 abbrev pub EndsOver : Option (List ℕ) → (List ℕ → Type 0) → Type 0

@@ -5,17 +5,12 @@
 ghost use Rattle.std.specs.Prelude.{◌≡◌, IfOk};
 
 mod agent;
-mod command;
-mod peer_commands;
-mod server_run;
-mod sockets;
 
 pub use agent::agent;
 use agent_server::{Finish, Pair, Trail, World};
 use agent_status::Status;
-pub use command::Places;
-use command::{Command, TextCommand, command_of};
-pub use sockets::places;
+pub use command_line::{Places, places};
+use command_line::{Command, TextCommand, command_of};
 use std::alloc::Global;
 use std::hash::RandomState;
 use std::net::{Ipv4Addr, Net, TcpListener, TcpStream};

@@ -14,3 +14,4 @@ pub mod Members
 pub mod Spoken
 pub mod LawLemmas
 pub mod AnswerLemmas
+pub mod StillLemmas

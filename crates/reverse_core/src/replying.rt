@@ -68,6 +68,7 @@ impl Ledger {
         ensures err { OnErr result (state_of self.new ≡ state_of self.old) }
     {
         let outputs = one(alloc, output)?;
+        self.purge(moment);
         self.moment = moment;
         Ok(outputs)
     }

@@ -1,0 +1,117 @@
+-- The words of commands (profile).
+use Rattle.std.specs.Prelude.{ℕ, ◌^◌, ◌≤◌, ◌==◌, List, [], ◌∷◌, Option, Some, None, String, string_bytes, bytes_eq, codes, option_map, if◌then◌else◌}
+use Rattle.std.specs.declared.alloc.Global.{Global}
+use Rattle.agent_config.specs.Values.{address_in}
+use Rattle.transcript.specs.Words.{◌>>=◌, number_word}
+use Rattle.command_line.specs.declared.command.Places.{Places}
+use Rattle.command_line.specs.declared.command.Places.TheVariants as places
+use Rattle.command_line.specs.declared.command.TextCommand.{TextCommand}
+use Rattle.command_line.specs.declared.command.TextCommand.TheVariants.{Replay, Dynamic, Reverse, Check, Show, Generate, Measure}
+use Rattle.command_line.specs.declared.command.Command.{Command}
+use Rattle.command_line.specs.declared.command.Command.TheVariants.{Text, Run}
+
+-- ---- from text to text
+
+-- one word
+abbrev pub command_named : List ℕ → Option TextCommand
+command_named word =
+    if bytes_eq word (codes "replay") then Some Replay
+    else if bytes_eq word (codes "dynamic") then Some Dynamic
+    else if bytes_eq word (codes "reverse") then Some Reverse
+    else if bytes_eq word (codes "check") then Some Check
+    else if bytes_eq word (codes "show") then Some Show
+    else None
+
+-- how many logins: 1 to 1,000,000
+abbrev pub count_word : List ℕ → Option ℕ
+count_word word = number_word 1000000 word >>= (λ count. if count == 0 then None else Some count)
+
+-- a word and two numbers
+abbrev pub command_with : List ℕ → ℕ → ℕ → Option TextCommand
+command_with word count seed =
+    if bytes_eq word (codes "generate") then Some (Generate count seed)
+    else if bytes_eq word (codes "measure") then Some (Measure count seed)
+    else None
+
+abbrev pub sized_command : List ℕ → List ℕ → List ℕ → Option TextCommand
+sized_command word count seed = do
+  count ← count_word count
+  seed ← number_word 4294967295 seed
+  command_with word count seed
+
+-- ---- over sockets
+
+-- 1 to 65535
+abbrev pub port_word : List ℕ → Option ℕ
+port_word word = number_word 65535 word >>= (λ port. if port == 0 then None else Some port)
+
+-- at most 2^63
+abbrev pub millis_word : List ℕ → Option ℕ
+millis_word word = number_word (2 ^ 63) word
+
+abbrev pub peer_at : List ℕ → ℕ → ℕ → ℕ → Option Command
+peer_at word address port millis =
+    if bytes_eq word (codes "home") then Some (Run (places.Home address port) millis)
+    else if bytes_eq word (codes "nas") then Some (Run (places.Nas address port) millis)
+    else None
+
+abbrev pub peer_command : List ℕ → List ℕ → List ℕ → List ℕ → Option Command
+peer_command word address port millis = do
+  address ← address_in address
+  port ← port_word port
+  millis ← millis_word millis
+  peer_at word address port millis
+
+abbrev pub serve_at : List ℕ → List ℕ → List ℕ → List ℕ → List ℕ → List ℕ → Option Command
+serve_at address auth acct peer port millis = do
+  address ← address_in address
+  auth ← port_word auth
+  acct ← port_word acct
+  peer ← address_in peer
+  port ← port_word port
+  millis ← millis_word millis
+  Some (Run (places.Serve address auth acct peer port) millis)
+
+abbrev pub serve_command : List ℕ → List ℕ → List ℕ → List ℕ → List ℕ → List ℕ → List ℕ → Option Command
+serve_command word address auth acct peer port millis =
+    if bytes_eq word (codes "serve") then serve_at address auth acct peer port millis else None
+
+-- ---- all words
+
+-- replay, dynamic, reverse, check, show, generate COUNT SEED, measure COUNT SEED, home ADDRESS PORT MILLIS,
+-- nas ADDRESS PORT MILLIS, or serve ADDRESS AUTH ACCT PEER PEERPORT MILLIS
+abbrev pub command_of : List (String Global) → Option Command
+command_of (word ∷ []) = option_map (λ c. Text c) (command_named (string_bytes word))
+command_of (word ∷ count ∷ seed ∷ []) =
+    option_map (λ c. Text c) (sized_command (string_bytes word) (string_bytes count) (string_bytes seed))
+command_of (word ∷ address ∷ port ∷ millis ∷ []) =
+    peer_command (string_bytes word) (string_bytes address) (string_bytes port) (string_bytes millis)
+command_of (word ∷ address ∷ auth ∷ acct ∷ peer ∷ port ∷ millis ∷ []) =
+    serve_command (string_bytes word) (string_bytes address) (string_bytes auth) (string_bytes acct) (string_bytes peer) (string_bytes port) (string_bytes millis)
+command_of words = None
+
+-- the places of the sockets that a command wants
+abbrev pub places_of : Option Command → Option Places
+places_of None = None
+places_of (Some (Text command)) = None
+places_of (Some (Run at millis)) = Some at
+
+-- ---- what a command asks for
+
+-- so many logins can be generated
+pub record CanGenerate (count : ℕ) : Type 0 where
+  pub some : 1 ≤ count
+  pub few : count ≤ 1000000
+
+abbrev pub IsSized : TextCommand → Type 0
+IsSized Replay = Unit {0}
+IsSized Dynamic = Unit {0}
+IsSized Reverse = Unit {0}
+IsSized Check = Unit {0}
+IsSized Show = Unit {0}
+IsSized (Generate count seed) = CanGenerate count
+IsSized (Measure count seed) = CanGenerate count
+
+abbrev pub IsSizedCommand : Command → Type 0
+IsSizedCommand (Text command) = IsSized command
+IsSizedCommand (Run at millis) = Unit {0}

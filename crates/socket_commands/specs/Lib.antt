@@ -1,0 +1,2 @@
+pub mod PeerEnds
+pub mod Serves

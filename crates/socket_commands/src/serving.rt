@@ -1,0 +1,205 @@
+//! The command `serve`.
+
+ghost use Rattle.std.specs.Prelude.{◌≡◌, ◌≢◌, ◌≤◌, ◌⊎◌, ◌∷◌, [], ◌++◌, ℕ, List, length, Ok, Err, Some, None, IfSome, IfNone, IfOk, IfErr};
+ghost use Rattle.wire_core.specs.Counts.{Rose};
+ghost use Rattle.agent_settings.specs.declared.config.Config.{Config};
+ghost use Rattle.agent_settings.specs.Config.{InLimits};
+ghost use Rattle.agent_config.specs.Settings.{settings_in};
+ghost use Rattle.agent_settings.specs.declared.fault.ConfigFault.{ConfigFault};
+ghost use Rattle.agent_server.specs.Desks.{HasRead};
+ghost use Rattle.text_commands.specs.SettingsInput.{SettingsNot};
+ghost use Rattle.text_commands.specs.Tasks.{EndsCounts};
+ghost use Rattle.text_commands.specs.WholeInput.{most_whole};
+ghost use Rattle.peer_runs.specs.Until.{until_of};
+ghost use Rattle.socket_commands.specs.Serves.{EndedEarly, EndsBefore, IsRunEnd, IsSoundEnd, RanFor, RanServer, Reports, after_failure, served_line, with_boot};
+
+use agent_server::{Finish, Worker, World, serve};
+use agent_settings::Config;
+use agent_status::Status;
+use std::alloc::Global;
+use std::hash::RandomState;
+use std::sync::Wait;
+use text_commands::{take_settings, write_text};
+use wire_core::{NoMemory, Octets, Sink, Source};
+use wire_devices::{Clock, Crew, Datagrams, Dialer};
+
+/// The settings with the boot that a run has: where none is set, the clock's first reading in whole seconds.
+fn booted(mut config: Config, first: u64) -> Config
+    requires { InLimits config }
+    ensures exact { result ≡ with_boot first config }
+    ensures limits { InLimits result }
+{
+    let seconds = (first / 1000 % (1 << 32)) as u32;
+    config.boot = config.boot.or(Some(seconds));
+    config
+}
+
+/// The line that tells of a run.
+fn line_of(alloc: Global, entries: u64, lost: u64) -> Result<Octets, NoMemory>
+    ensures { IfOk result (λ line. line ≡ served_line entries lost) }
+{
+    let text = format!(in alloc; "served {entries} {lost}\n")?;
+    Ok(Octets::from_vec(text.into_bytes()))
+}
+
+/// The status of a run of whose line a write failed.
+fn failed(end: Status) -> Status
+    ensures { result ≡ after_failure end }
+{
+    match end {
+        Status::OutOfMemory | Status::NoThread | Status::DatagramFault | Status::LinkFault => end,
+        _ => Status::WriteFault,
+    }
+}
+
+/// Writes the line that tells of a run, and gives the status of the command.
+fn report<K: Sink>(alloc: Global, output: &mut K, entries: u64, lost: u64, end: Status) -> Status
+    ensures { Reports end result (served_line entries lost) (K.written output.old) (K.written output.new) (K.faults output.old) (K.faults output.new) }
+{
+    let Ok(line) = line_of(alloc, entries, lost) else {
+        return Status::OutOfMemory;
+    };
+    match write_text(output, line.as_slice()) {
+        Ok(()) => end,
+        Err(_) => failed(end),
+    }
+}
+
+/// A run that didn't begin, or that was no server's.
+pub fn idle<C, D, L: Dialer, W>(status: Status, world: World<C, D, L, W>) -> Finish<C, D, L, W>
+    ensures { result ≡ record { status = status; world = world; trail = None; home = None } }
+{
+    Finish {
+        status,
+        world,
+        trail: None,
+        home: None,
+    }
+}
+
+/// Serves by these settings for so many milliseconds, and writes how many entries the run had and how many inputs it lost.
+fn serve_for<R, K, C, D, L, W>(
+    rt: &R,
+    alloc: Global,
+    random: RandomState,
+    millis: u64,
+    config: Config,
+    output: &mut K,
+    world: World<C, D, L, W>,
+) -> Finish<C, D, L, W>
+where
+    R: Wait,
+    K: Sink,
+    C: Clock + Send + Drop + 'static,
+    D: Datagrams + Send + Drop + 'static,
+    L: Dialer,
+    L::In: Send + Drop + 'static,
+    L::Out: Drop,
+    W: Crew<Worker<C, D, L::In>>,
+    requires limits { InLimits config }
+    requires rows { ((D.told world.auth).row ≡ 0) × ((D.told world.acct).row ≡ 0) × ((L.told world.dialer).row ≡ 0) }
+    ensures home { result.home ≡ None }
+    ensures served { (before : List ℕ) → HasRead (C.readings world.clock) before []
+        → IfSome result.trail (λ trail. RanFor C.readings D.told L.In.told L.Out.told config millis before
+        (D.told world.auth) (D.told world.acct) (D.told result.world.auth) (D.told result.world.acct) (L.told world.dialer) (L.told result.world.dialer)
+        (Rose (W.faults world.crew) (W.faults result.world.crew)) result.world.clock trail result.status
+        (K.written output.old) (K.written output.new) (K.faults output.old) (K.faults output.new)) }
+    ensures early { (before : List ℕ) → HasRead (C.readings world.clock) before []
+        → IfNone result.trail (EndsBefore result.status millis (C.readings result.world.clock) (L.told world.dialer) (L.told result.world.dialer)
+        (Rose (D.told world.auth).faults (D.told result.world.auth).faults ⊎ Rose (D.told world.acct).faults (D.told result.world.acct).faults)
+        (Rose (W.faults world.crew) (W.faults result.world.crew))) }
+    ensures unwritten { IfNone result.trail (output.new ≡ output.old) }
+    ensures ends { IsRunEnd result.status }
+    ensures wrote { result.status ≡ Status.WriteFault → Rose (K.faults output.old) (K.faults output.new) }
+    ensures sound { ¬ Rose (K.faults output.old) (K.faults output.new)
+        → ¬ Rose (D.told world.auth).faults (D.told result.world.auth).faults → ¬ Rose (D.told world.acct).faults (D.told result.world.acct).faults
+        → ¬ Rose (L.told world.dialer).faults (L.told result.world.dialer).faults → ¬ Rose (W.faults world.crew) (W.faults result.world.crew)
+        → IsSoundEnd result.status }
+{
+    let World {
+        mut clock,
+        auth,
+        acct,
+        dialer,
+        crew,
+    } = world;
+    let first = clock.now();
+    let world = World {
+        clock,
+        auth,
+        acct,
+        dialer,
+        crew,
+    };
+    let until = first.saturating_add(millis);
+    let Finish {
+        status: end,
+        world,
+        trail,
+        home,
+    } = serve(rt, alloc, random, booted(config, first), world, until);
+    let Some(trail) = trail else {
+        return Finish {
+            status: end,
+            world,
+            trail: None,
+            home,
+        };
+    };
+    let status = report(alloc, output, trail.entries, trail.lost, end);
+    Finish {
+        status,
+        world,
+        trail: Some(trail),
+        home,
+    }
+}
+
+/// Reads settings and serves RADIUS clients by the home server for so many milliseconds, and writes how many entries the
+/// run had and how many inputs it lost.
+pub fn run_server<R, S, K, C, D, L, W>(
+    rt: &R,
+    alloc: Global,
+    random: RandomState,
+    millis: u64,
+    input: &mut S,
+    output: &mut K,
+    world: World<C, D, L, W>,
+) -> Finish<C, D, L, W>
+where
+    R: Wait,
+    S: Source,
+    K: Sink,
+    C: Clock + Send + Drop + 'static,
+    D: Datagrams + Send + Drop + 'static,
+    L: Dialer,
+    L::In: Send + Drop + 'static,
+    L::Out: Drop,
+    W: Crew<Worker<C, D, L::In>>,
+    requires rows { ((D.told world.auth).row ≡ 0) × ((D.told world.acct).row ≡ 0) × ((L.told world.dialer).row ≡ 0) }
+    ensures begun { result.status ≢ Status.Usage }
+    ensures home { result.home ≡ None }
+    ensures served { (before : List ℕ) → HasRead (C.readings world.clock) before []
+        → IfSome result.trail (λ trail. RanServer C.readings D.told L.In.told L.Out.told millis (S.left input.old) (S.left input.new) before
+        (D.told world.auth) (D.told world.acct) (D.told result.world.auth) (D.told result.world.acct) (L.told world.dialer) (L.told result.world.dialer)
+        (Rose (W.faults world.crew) (W.faults result.world.crew)) result.world.clock trail result.status
+        (K.written output.old) (K.written output.new) (K.faults output.old) (K.faults output.new)) }
+    ensures early { (before : List ℕ) → HasRead (C.readings world.clock) before []
+        → IfNone result.trail ((SettingsNot result.status (S.left input.old) (S.left input.new) × (result.world ≡ world))
+        ⊎ EndedEarly result.status millis (S.left input.old) (S.left input.new) (C.readings result.world.clock) (L.told world.dialer) (L.told result.world.dialer)
+        (Rose (D.told world.auth).faults (D.told result.world.auth).faults ⊎ Rose (D.told world.acct).faults (D.told result.world.acct).faults)
+        (Rose (W.faults world.crew) (W.faults result.world.crew))) }
+    ensures unwritten { IfNone result.trail (output.new ≡ output.old) }
+    ensures counts { EndsCounts result.status (S.ends input.old) (S.ends input.new) (S.faults input.old) (S.faults input.new)
+        (K.faults output.old) (K.faults output.new) }
+    ensures complete { (X : List ℕ) (config : Config) → S.left input.old ≡ Some X → settings_in X ≡ Ok config → length X ≤ most_whole
+        → ¬ Rose (S.faults input.old) (S.faults input.new) → ¬ Rose (K.faults output.old) (K.faults output.new)
+        → ¬ Rose (D.told world.auth).faults (D.told result.world.auth).faults → ¬ Rose (D.told world.acct).faults (D.told result.world.acct).faults
+        → ¬ Rose (L.told world.dialer).faults (L.told result.world.dialer).faults → ¬ Rose (W.faults world.crew) (W.faults result.world.crew)
+        → IsSoundEnd result.status }
+{
+    match take_settings(alloc, input) {
+        Ok(config) => serve_for(rt, alloc, random, millis, config, output, world),
+        Err(status) => idle(status, world),
+    }
+}
