@@ -1,4 +1,5 @@
 pub mod AskingLemmas
+pub mod BackLemmas
 pub mod ConcludingLemmas
 pub mod DeskLemmas
 pub mod FinalLemmas

@@ -461,6 +461,10 @@ pub carries-same : {C : Type 0} (readings : C → Option (List ℕ)) (k l : Know
     → Carries (StandsBy readings) k base → Carries (StandsBy readings) l base
 carries-same readings k l base same (desk, is, stands) = (desk, same ∙ is, stands)
 
+pub rose-same : {C : Type 0} (k l : Known (AgentDesk C) Input Heard) (d e : Dials) → l.seen ≡ k.seen → RoseBy (ticks (of 0 k.seen)) d.faults e.faults
+    → RoseBy (ticks (of 0 l.seen)) d.faults e.faults
+rose-same k l d e same rose = subst (λ (ts : List ServerTurn). RoseBy (ticks (of 0 ts)) d.faults e.faults) (sym same) rose
+
 -- the crew's count of refused starts is as it was
 pub served-from : {C D I O : Type 0} (readings : C → Option (List ℕ)) (told : D → Socket) (hears : I → Inlet) (speaks : O → Outlet) (config : Config) (until : ℕ)
     (before : List ℕ) (auth acct auth' acct' : Socket) (dials dials' : Dials) (starts starts' now : ℕ) (clock : C) (trail : Option (Trail C D I O)) (status : Status)

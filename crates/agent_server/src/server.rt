@@ -1,6 +1,6 @@
 //! The server: one core, at which the writer of the link and its workers take turns.
 
-ghost use Rattle.std.specs.Prelude.{◌≡◌, ◌≤◌, ◌⊎◌, ℕ, List, [], ◌∷◌, length, vec_capacity, IfOk, IfErr, IfSome, IfNone, IsSome, MatchResult, None};
+ghost use Rattle.std.specs.Prelude.{◌≡◌, ◌+◌, ◌≤◌, ◌⊎◌, ℕ, List, [], ◌∷◌, length, vec_capacity, IfOk, IfErr, IfSome, IfNone, IsSome, MatchResult, Ok, Err, None};
 ghost use Rattle.std.specs.Arc.{arc_value};
 ghost use Rattle.wire_core.specs.Counts.{Rose};
 ghost use Rattle.radius_packet.specs.declared.reasons.Via.TheVariants.{Auth, Acct};
@@ -404,6 +404,59 @@ struct SocketBack<C, D> {
     failed: bool,
 }
 
+/// Waits for the reader of a socket.
+fn socket_ran<C, D, I, W>(crew: &mut W, reader: ThreadHelper<Worker<C, D, I>>) -> SocketBack<C, D>
+where
+    C: Clock + Send + Drop + 'static,
+    D: Datagrams + Send + Drop + 'static,
+    I: LinkIn + Send + Drop + 'static,
+    W: Crew<Worker<C, D, I>>,
+    requires worker { IsSocketWorker reader }
+    ensures back { IsSocketBack D.told (Ok reader) result }
+    ensures faults { W.faults crew.new ≡ W.faults crew.old }
+{
+    match crew.finish(reader) {
+        Ended::Reader {
+            socket,
+            pass,
+            lost,
+            fault,
+        } => SocketBack {
+            pass,
+            socket,
+            lost,
+            failed: fault.is_some(),
+        },
+        Ended::Link { .. } => unreachable!(),
+    }
+}
+
+/// Takes back the reader of a socket that was never started.
+fn socket_unstarted<C, D, I>(reader: Worker<C, D, I>) -> SocketBack<C, D>
+where
+    C: Clock + Drop,
+    D: Datagrams + Drop,
+    I: Drop,
+    requires { IsSocketWorker reader }
+    ensures { IsSocketBack D.told (Err reader) result }
+{
+    match reader {
+        Worker::Reader {
+            alloc: _,
+            turnstile: _,
+            pass,
+            via: _,
+            socket,
+        } => SocketBack {
+            pass,
+            socket,
+            lost: 0,
+            failed: false,
+        },
+        Worker::Link { .. } => unreachable!(),
+    }
+}
+
 /// The reader of a socket that was finished, or never started.
 fn socket_back<C, D, I, W>(crew: &mut W, reader: Start<C, D, I>) -> SocketBack<C, D>
 where
@@ -411,41 +464,56 @@ where
     D: Datagrams + Send + Drop + 'static,
     I: LinkIn + Send + Drop + 'static,
     W: Crew<Worker<C, D, I>>,
-    requires { MatchResult reader IsSocketWorker IsSocketWorker }
+    requires worker { MatchResult reader IsSocketWorker IsSocketWorker }
     ensures back { IsSocketBack D.told reader result }
     ensures faults { W.faults crew.new ≡ W.faults crew.old }
 {
     match reader {
-        Ok(helper) => match crew.finish(helper) {
-            Ended::Reader {
-                socket,
-                pass,
-                lost,
-                fault,
-            } => SocketBack {
-                pass,
-                socket,
-                lost,
-                failed: fault.is_some(),
-            },
-            Ended::Link { .. } => unreachable!(),
-        },
-        Err(
-            Worker::Reader {
-                alloc: _,
-                turnstile: _,
-                pass,
-                via: _,
-                socket,
-            },
-        ) => SocketBack {
-            pass,
-            socket,
-            lost: 0,
-            failed: false,
-        },
-        Err(Worker::Link { .. }) => unreachable!(),
+        Ok(helper) => socket_ran(crew, helper),
+        Err(worker) => socket_unstarted(worker),
     }
+}
+
+/// Takes back the reader of a socket, and joins its pass. It gives the socket.
+fn rejoin_socket<C, D, I, W>(
+    turnstile: &Shared<AgentDesk<C>>,
+    pass: &mut Pass<AgentDesk<C>>,
+    crew: &mut W,
+    reader: Start<C, D, I>,
+) -> D
+where
+    C: Clock + Send + Drop + 'static,
+    D: Datagrams + Send + Drop + 'static,
+    I: LinkIn + Send + Drop + 'static,
+    W: Crew<Worker<C, D, I>>,
+    requires table { table_of pass.old ≡ arc_value turnstile.now }
+    requires theirs { (number : ℕ) × MatchResult reader (IsReader (arc_value turnstile.now) number) (IsReader (arc_value turnstile.now) number) }
+    ensures table { table_of pass.new ≡ table_of pass.old }
+    ensures one_more { length (known pass.new).numbers ≡ length (known pass.old).numbers + 1 }
+    ensures faults { W.faults crew.new ≡ W.faults crew.old }
+{
+    let back = socket_back(crew, reader);
+    turnstile.join(pass, back.pass);
+    back.socket
+}
+
+/// Takes back the reader of a link that couldn't be started, and joins its pass.
+fn rejoin_link<C, D, I>(
+    turnstile: &Shared<AgentDesk<C>>,
+    pass: &mut Pass<AgentDesk<C>>,
+    reader: Worker<C, D, I>,
+)
+where
+    C: Clock + Drop,
+    D: Drop,
+    I: Drop,
+    requires table { table_of pass.old ≡ arc_value turnstile.now }
+    requires theirs { (number : ℕ) × IsLinkReader (arc_value turnstile.now) number reader }
+    ensures table { table_of pass.new ≡ table_of pass.old }
+    ensures one_more { length (known pass.new).numbers ≡ length (known pass.old).numbers + 1 }
+{
+    let back = reader_unstarted(reader);
+    turnstile.join(pass, back.pass);
 }
 
 /// Ends a run of which a worker couldn't be started at first.
@@ -471,17 +539,14 @@ where
 {
     let _ = enter(rt, turnstile, &mut pass, &Input::Leave);
     let Unteamed { auth, acct, link } = team;
-    let link = reader_unstarted(link);
-    let auth = socket_back(crew, auth);
-    let acct = socket_back(crew, acct);
-    turnstile.join(&mut pass, link.pass);
-    turnstile.join(&mut pass, auth.pass);
-    turnstile.join(&mut pass, acct.pass);
+    let auth = rejoin_socket(turnstile, &mut pass, crew, auth);
+    let acct = rejoin_socket(turnstile, &mut pass, crew, acct);
+    rejoin_link(turnstile, &mut pass, link);
     Outcome {
         status: Status::NoThread,
         clock: clock_of(turnstile, pass),
-        auth: auth.socket,
-        acct: acct.socket,
+        auth,
+        acct,
         trail: None,
     }
 }
@@ -548,8 +613,8 @@ where
     let (end, twins) = serve_links(
         rt, alloc, turnstile, &mut pass, dialer, crew, first, &mut past,
     );
-    let auth = socket_back(crew, Ok(auth));
-    let acct = socket_back(crew, Ok(acct));
+    let auth = socket_ran(crew, auth);
+    let acct = socket_ran(crew, acct);
     conclude(turnstile, pass, end, twins, past, auth, acct)
 }
 

@@ -1,11 +1,27 @@
-use Rattle.std.proofs.Common.{◌∙◌}
+use Rattle.std.proofs.Common.{Ok, ◌∙◌}
+use Rattle.std.specs.Arc.{arc_value}
 use Rattle.turnstile.specs.Passes.{known}
+use Rattle.agent_server.proofs.BackLemmas.{back-at, reader-worker}
 use Rattle.agent_server.proofs.ConcludingLemmas.{all-done}
 use Rattle.agent_server.proofs.server.lead.Goals as goal
+
+pub socket_ran-auth-requires-clause-worker : goal.socket_ran-auth-requires-clause-worker
+socket_ran-auth-requires-clause-worker g c κs within = reader-worker (arc_value c.args.turnstile.now) 1 c.args.team.auth c.requires.readers.0
+
+pub socket_ran-acct-requires-clause-worker : goal.socket_ran-acct-requires-clause-worker
+socket_ran-acct-requires-clause-worker g c κs within = reader-worker (arc_value c.args.turnstile.now) 2 c.args.team.acct c.requires.readers.1
+
+pub conclude-requires-clause-auth : goal.conclude-requires-clause-auth
+conclude-requires-clause-auth g c =
+    back-at (arc_value c.args.turnstile.now) 1 g.D.Datagrams.told (Ok c.args.team.auth) c.socket_ran-auth.result c.requires.readers.0 c.socket_ran-auth.ensures.back
+
+pub conclude-requires-clause-acct : goal.conclude-requires-clause-acct
+conclude-requires-clause-acct g c =
+    back-at (arc_value c.args.turnstile.now) 2 g.D.Datagrams.told (Ok c.args.team.acct) c.socket_ran-acct.result c.requires.readers.1 c.socket_ran-acct.ensures.back
 
 pub returns-clause-served : goal.returns-clause-served
 returns-clause-served g c = λ base dials auth acct carries dialled grows auth_starts acct_starts.
     c.conclude.ensures.served base dials _ _ _ _ auth acct (known c.args.pass)
     (all-done g.D.Datagrams.told g.C.Clock.readings g.L.In.LinkIn.told g.L.Out.LinkOut.told base dials _ _ _ _ _ auth acct _ _ _ _ _ c.args.team.auth c.args.team.acct _ _
-    carries dialled grows c.serve_links-end.ensures.ends (c.socket_back-acct.ensures.faults ∙ c.socket_back-auth.ensures.faults) auth_starts acct_starts
-    c.socket_back-auth.ensures.back c.socket_back-acct.ensures.back)
+    carries dialled grows c.serve_links-end.ensures.ends (c.socket_ran-acct.ensures.faults ∙ c.socket_ran-auth.ensures.faults) auth_starts acct_starts
+    c.socket_ran-auth.ensures.back c.socket_ran-acct.ensures.back)

@@ -1,11 +1,8 @@
-use Rattle.std.proofs.Common.{sym, ◌∙◌, subst}
+use Rattle.std.proofs.Common.{◌∙◌}
 use Rattle.std.specs.Arc.{arc_value}
 use Rattle.radius_packet.specs.declared.reasons.Via.TheVariants.{Auth, Acct}
 use Rattle.turnstile.specs.Passes.{known}
-use Rattle.turnstile.specs.Turns.{of}
-use Rattle.server_workers.specs.Entries.{ticks}
-use Rattle.server_workers.specs.Running.{RoseBy}
-use Rattle.agent_server.proofs.StartingLemmas.{carries-same, ends-early, link-started, reader-at, reader-starts, served-from}
+use Rattle.agent_server.proofs.StartingLemmas.{carries-same, ends-early, link-started, reader-at, reader-starts, rose-same, served-from}
 use Rattle.agent_server.proofs.server.run.Goals as goal
 
 pub returns-in-Err-clause-early : goal.returns-in-Err-clause-early
@@ -13,6 +10,20 @@ returns-in-Err-clause-early g c = λ base carries.
     ends-early g.C.Clock.readings c.clock_of.result base (known c.first_link.new.pass).seen c.in-Err.status _ _ _ _
     (c.clock_of.ensures base (carries-same g.C.Clock.readings (known c.args.stand.pass) (known c.first_link.new.pass) base c.first_link.ensures.same.0 carries))
     c.in-Err.ensures.failed
+
+pub start_workers-requires-clause-table : goal.start_workers-requires-clause-table
+start_workers-requires-clause-table g c κs within = c.first_link.ensures.table ∙ c.requires.ready.table
+
+pub start_workers-requires-clause-numbers : goal.start_workers-requires-clause-numbers
+start_workers-requires-clause-numbers g c κs within = c.first_link.ensures.same.1 ∙ c.requires.ready.numbers
+
+pub start_workers-requires-clause-rows : goal.start_workers-requires-clause-rows
+start_workers-requires-clause-rows g c κs within =
+    let alike = c.in-Ok.ensures.alike in
+    (alike.0.row ∙ c.requires.rows.0, alike.1.row ∙ c.requires.rows.1)
+
+pub start_workers-requires-clause-fresh : goal.start_workers-requires-clause-fresh
+start_workers-requires-clause-fresh g c κs within = c.in-Ok.ensures.opened.fresh_in
 
 pub lead-requires-clause-started : goal.lead-requires-clause-started
 lead-requires-clause-started g c κs within =
@@ -47,7 +58,7 @@ returns-in-Ok-start_workers-clause-served g c = λ base carries.
     (g.W.Crew.faults c.lead.new.crew) c.lead.result.clock c.lead.result.trail c.lead.result.status started.unrefused
     (c.lead.ensures.served base (g.L.Dialer.told c.args.dialer.now) (told c.args.auth) (told c.args.acct)
     (carries-same g.C.Clock.readings (known c.args.stand.pass) l base (started.same.1 ∙ c.first_link.ensures.same.0) carries)
-    (subst (λ ts. RoseBy (ticks (of 0 ts)) (g.L.Dialer.told c.args.dialer.now).faults (g.L.Dialer.told c.first_link.new.dialer).faults) (sym started.same.0) opened.dialled)
+    (rose-same k l (g.L.Dialer.told c.args.dialer.now) (g.L.Dialer.told c.first_link.new.dialer) started.same.0 opened.dialled)
     opened.grows
     (reader-starts told turnstile Auth 1 k l team.auth c.first_link.new.auth (told c.args.auth) started.ok.0 started.same.0 opened.alone.0 alike.0 c.requires.rows.0)
     (reader-starts told turnstile Acct 2 k l team.acct c.first_link.new.acct (told c.args.acct) started.ok.1 started.same.0 opened.alone.1 alike.1 c.requires.rows.1))

@@ -1,0 +1,19 @@
+use Rattle.std.proofs.Common.{length, ap, arith, ◌∙◌}
+use Rattle.agent_server.proofs.server.disband.Goals as goal
+
+pub rejoin_socket-auth-requires-clause-theirs : goal.rejoin_socket-auth-requires-clause-theirs
+rejoin_socket-auth-requires-clause-theirs g c κs within = (1, c.requires.auth)
+
+pub rejoin_socket-acct-requires-clause-theirs : goal.rejoin_socket-acct-requires-clause-theirs
+rejoin_socket-acct-requires-clause-theirs g c κs within = (2, c.requires.acct)
+
+pub rejoin_link-requires : goal.rejoin_link-requires
+rejoin_link-requires g c = record {
+  table = c.rejoin_socket-acct.ensures.table ∙ c.rejoin_socket-auth.ensures.table ∙ c.enter.ensures.table ∙ c.requires.own.0;
+  theirs = (3, c.requires.link);
+}
+
+pub clock_of-requires-clause-all : goal.clock_of-requires-clause-all
+clock_of-requires-clause-all g c =
+    let one = ap length (c.enter.ensures.went.numbers ∙ c.requires.own.1) in
+    omega (arith, one, c.rejoin_link.ensures.one_more, c.rejoin_socket-auth.ensures.one_more, c.rejoin_socket-acct.ensures.one_more)
