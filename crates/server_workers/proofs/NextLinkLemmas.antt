@@ -13,8 +13,10 @@ use Rattle.wire_devices.specs.Sockets.{Socket}
 use Rattle.wire_devices.specs.Telling.{TellsOnly}
 use Rattle.agent_events.specs.declared.events.Input.{Input}
 use Rattle.agent_events.specs.declared.events.Input.TheVariants as inputs
+use Rattle.turnstile.specs.declared.pass.PassOf.{PassOf}
 use Rattle.turnstile.specs.declared.view.Known.{Known}
 use Rattle.turnstile.specs.Knowing.{Joined, left_of, right_of}
+use Rattle.turnstile.specs.Passes.{known, table_of}
 use Rattle.turnstile.specs.Turns.{In, greatest, least, longer, of, without}
 use Rattle.server_workers.specs.declared.heard.Heard.{Heard}
 use Rattle.server_workers.specs.declared.link_making.Dialling.TheVariants as dialling
@@ -31,7 +33,7 @@ use Rattle.server_workers.specs.Entries.{EachEntry, EndsWith, RunTurn, downs, ha
 use Rattle.server_workers.specs.Going.{SeenLast, Went}
 use Rattle.server_workers.specs.LinkReading.{LinkMayTake}
 use Rattle.server_workers.specs.LinkWriting.{Wrote}
-use Rattle.server_workers.specs.Running.{Between, ClosedFor, ComesNext, Dialled, Ends, EndsLink, EndsRun, end_after, HasSpare, IsFinishedTick, LastDrain, LateDrainsAreEmpty, LeftAtEnd, LinkOpened, NoLeave, Over, Rests, RoseBy, RunOver, Tally, TakesLeaveAlone, Ticked}
+use Rattle.server_workers.specs.Running.{Between, ClosedFor, ComesNext, Dialled, Ends, EndsLink, EndsRun, end_after, HasSpare, IsFinishedTick, LastDrain, LateDrainsAreEmpty, LeftAtEnd, LinkOpened, NoLeave, Opened, Over, Rests, RoseBy, RunOver, Started, Tally, TakesLeaveAlone, Ticked}
 use Rattle.agent_events.specs.Kinds.{is_leave}
 use Rattle.server_workers.specs.Serving.{AllBut, AreUnopened, IsTick, LinkRead, MayWrite, Span, Spanned, Spans}
 use Rattle.server_workers.specs.Serving.Spans.{no_more, one_more}
@@ -240,6 +242,11 @@ ticked-still own n = record { more = []; whole = sym (append-nil own); counted =
 
 pub ticked-none : (a b : List RunTurn) (n : ℕ) → Ticked a b 0 0 → Ticked a b n n
 ticked-none a b n t = record { more = t.more; whole = t.whole; counted = omega (arith, t.counted); grows = omega arith }
+
+-- only the pass was split
+pub ticked-split : {T : Type 0} (k l : Known T Input Heard) (n : ℕ) → l ≡ left_of k → Ticked (of 0 k.seen) (of 0 l.seen) n n
+ticked-split {T} k l n left =
+    subst (λ (ts : List ServerTurn). Ticked (of 0 k.seen) (of 0 ts) n n) (sym (ap (λ (v : Known T Input Heard). v.seen) left)) (ticked-still (of 0 k.seen) n)
 
 -- the Up of a link
 pub ticked-up : {T : Type 0} (k l : Known T Input Heard) (opened : Heard) (faults : ℕ) → k.numbers ≡ 0 ∷ 3 ∷ [] → Went (Some (inputs.Up, opened) ∷ []) k l
@@ -577,6 +584,28 @@ module _ {I O : Type 0} (hears : I → Inlet) (speaks : O → Outlet) where
     ends-finished run.Worn before now refused k l m twins past mine low s dials d (more, went, how) = absurd how
     ends-finished run.LinkFault before now refused k l m twins past mine low s dials d (more, went, how) = absurd how
     ends-finished run.NoThread before now refused k l m twins past mine low s dials d (more, went, how) = absurd how
+
+    -- ---- a link that was opened, whose reader was started
+
+    pub started-now : (turnstile : TableId) (k l : Known T Input Heard) (pass : PassOf T Input Heard) (pair : Pair I O) (twins : Twins D) (past : Past I O) → table_of pass ≡ turnstile
+        → (s : LinkOpened hears speaks told k twins past) → l ≡ left_of k → known pass ≡ right_of k → IsFreshInlet (hears pair.link_in) → IsFreshOutlet (speaks pair.link_out)
+        → Started hears speaks told turnstile l pass pair.link_in twins.auth twins.acct pair.link_out past
+    started-now turnstile k l pass pair twins past table s left right fresh_in fresh_out =
+        let seen : l.seen ≡ k.seen = ap (λ (v : Known T Input Heard). v.seen) left in
+        record {
+          table = table;
+          mine = ap (λ (v : Known T Input Heard). v.numbers) left ∙ ap (λ ns. without (greatest ns) ns) s.numbers;
+          theirs = ap (λ (v : Known T Input Heard). v.numbers) right ∙ ap (λ ns. greatest ns ∷ []) s.numbers;
+          seen = ap (λ (v : Known T Input Heard). v.seen) right ∙ sym seen;
+          first = ap (λ (v : Known T Input Heard). v.first) right ∙ sym (ap (λ (v : Known T Input Heard). v.first) left);
+          fresh_in = fresh_in;
+          fresh_out = fresh_out;
+          out = s.out;
+          retries = s.retries;
+          few = s.few;
+          opened = subst (λ (ts : List ServerTurn). Opened hears speaks past.pairs.items ts s.out s.retries) (sym seen) s.opened;
+          tally = subst (λ (ts : List ServerTurn). Tally told past twins.auth twins.acct ts s.out s.retries) (sym seen) s.tally;
+        }
 
     -- ---- a link that was opened, whose reader couldn't be started
 

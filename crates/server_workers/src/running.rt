@@ -436,6 +436,40 @@ fn end_after(end: WriterEnd) -> Option<RunEnd>
     }
 }
 
+/// Goes through one link, and makes the next, where there is to be one.
+fn serve_one<R, T, D, L, W>(
+    rt: &R,
+    alloc: Global,
+    turnstile: &Shared<T>,
+    pass: &mut Pass<T>,
+    dialer: &mut L,
+    crew: &mut W,
+    live: Live<T, D, L::In, L::Out>,
+    past: &mut Past<L::In, L::Out>,
+) -> Next<T, D, L::In, L::Out>
+where
+    R: Wait,
+    T: Desk<Ask = Input, Answer = Heard, Refusal = NoMemory, Base = RunBase>
+        + Send
+        + Drop
+        + 'static,
+    D: Datagrams + Send + Drop + 'static,
+    L: Dialer,
+    L::In: Send + Drop + 'static,
+    W: Crew<Worker<T, D, L::In>>,
+    requires table { table_of pass.old ≡ arc_value turnstile.now }
+    requires row { (L.told dialer.old).row ≡ 0 }
+    requires started { StartedAs L.In.told L.Out.told D.told (arc_value turnstile.now) (known pass.old) live.helper live.link_out past.old }
+    ensures table { table_of pass.new ≡ table_of pass.old }
+    ensures next { ComesNext L.In.told L.Out.told D.told result (arc_value turnstile.now) (L.told dialer.old) (L.told dialer.new) (W.faults crew.old) (W.faults crew.new) (known pass.old) (known pass.new) past.new }
+{
+    let (end, twins) = serve_link(rt, alloc, turnstile, pass, crew, live, past);
+    match end_after(end) {
+        Some(end) => Next::Stop { end, twins },
+        None => next_link(rt, alloc, turnstile, pass, dialer, crew, twins, past),
+    }
+}
+
 /// Goes through link after link, until no further one is made.
 pub fn serve_links<R, T, D, L, W>(
     rt: &R,
@@ -465,11 +499,7 @@ where
 {
     let mut live = first;
     for _ in rt.forever() {
-        let (end, twins) = serve_link(rt, alloc, turnstile, pass, crew, live, past);
-        if let Some(end) = end_after(end) {
-            return (end, twins);
-        }
-        match next_link(rt, alloc, turnstile, pass, dialer, crew, twins, past) {
+        match serve_one(rt, alloc, turnstile, pass, dialer, crew, live, past) {
             Next::Go(next) => live = next,
             Next::Stop { end, twins } => return (end, twins),
         }

@@ -1,8 +1,9 @@
-use Rattle.std.proofs.Common.{◌≡◌, ◌++◌, ◌∷◌, [], refl, ap, subst, ◌∙◌, arith}
-use Rattle.turnstile.specs.Passes.{known}
+use Rattle.std.proofs.Common.{◌≡◌, ◌++◌, ◌∷◌, [], rules, refl, sym, ap, subst, ◌∙◌, arith}
+use Rattle.std.specs.Arc.{arc_value}
+use Rattle.turnstile.specs.Passes.{known, table_of}
 use Rattle.server_workers.specs.declared.running.RunEnd.TheVariants as run
-use Rattle.server_workers.specs.Running.{ReaderNeverRan}
-use Rattle.server_workers.proofs.NextLinkLemmas.{ends-unstarted, same-again, same-still}
+use Rattle.server_workers.specs.Running.{IsLinkWorker, ReaderNeverRan, StartedAs}
+use Rattle.server_workers.proofs.NextLinkLemmas.{ends-unstarted, same-again, same-still, started-now, ticked-split}
 use Rattle.server_workers.proofs.running.start_reader.Goals as goal
 
 pub returns-in_default-clause-next : goal.returns-in_default-clause-next
@@ -13,6 +14,30 @@ returns-in_default-clause-next g c = λ dials low.
     (ends-unstarted g.I.LinkIn.told g.O.LinkOut.told g.D.Datagrams.told run.NoMemory dials _ (known c.args.pass.now) (known c.args.pass.now) (known c.give_up.new.pass) c.args.twins
     c.args.twins c.args.past.now _ c.args.pair left low s (same-still (known c.args.pass.now) s.numbers) went refl
     c.push_reserved.ensures.items c.push_reserved.ensures.capacity refl refl c.requires.fresh.0 c.requires.fresh.1 (λ segs seen. tt) tt)
+
+pub reader_unstarted-back-requires : goal.reader_unstarted-back-requires
+reader_unstarted-back-requires g c = subst IsLinkWorker (sym c.in-Err.ensures.err) tt
+
+pub put_past-twins-requires-clause-theirs : goal.put_past-twins-requires-clause-theirs
+put_past-twins-requires-clause-theirs g c =
+    let back_is = subst (λ worker. ReaderNeverRan worker c.reader_unstarted-back.result) c.in-Err.ensures.err c.reader_unstarted-back.ensures in
+    ap (λ b. table_of b.pass) back_is ∙ c.split.ensures.tables.1 ∙ c.requires.table
+
+pub returns-in-Ok-started-clause-next : goal.returns-in-Ok-started-clause-next
+returns-in-Ok-started-clause-next g c = λ dials low.
+    let s = c.requires.opened in
+    let split = c.split.ensures in
+    let now = known c.split.new.pass in
+    record {
+      first = ap (λ v. v.first) split.left;
+      ticked = ticked-split (known c.args.pass.now) now dials.faults split.left;
+      row = low;
+      unrefused = c.in-Ok-started.ensures.counts_faults.stays (search rules);
+      started = subst (λ worker. StartedAs g.I.LinkIn.told g.O.LinkOut.told g.D.Datagrams.told (arc_value c.args.turnstile.now) now worker c.args.pair.link_out c.args.past.now)
+          (sym c.in-Ok-started.ensures.ok)
+          (started-now g.I.LinkIn.told g.O.LinkOut.told g.D.Datagrams.told (arc_value c.args.turnstile.now) (known c.args.pass.now) now c.split.result c.args.pair c.args.twins
+          c.args.past.now (split.tables.1 ∙ c.requires.table) s split.left split.right c.requires.fresh.0 c.requires.fresh.1);
+    }
 
 pub returns-in-Err-clause-next : goal.returns-in-Err-clause-next
 returns-in-Err-clause-next g c = λ dials low.
