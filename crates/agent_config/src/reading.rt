@@ -70,10 +70,10 @@ struct Rules {
 /// Who the client of a table is.
 #[tactic(auto, using(crate::proofs::FaultLemmas::first_passed, crate::proofs::FaultLemmas::first_stops), unfolding(crate::specs::Settings::client_of))]
 fn read_identity(alloc: Global, table: &Table, client: u32) -> Result<Identity, ConfigFault>
-    ensures ok { IfOk result (λ i. first (identity_faults client (table_view table.now)) ≡ None) }
-    ensures name { IfOk result (λ i. i.name ≡ (client_of (table_view table.now)).name) }
-    ensures address { IfOk result (λ i. i.address ≡ (client_of (table_view table.now)).address) }
-    ensures secret { IfOk result (λ i. i.secret ≡ (client_of (table_view table.now)).secret) }
+    ensures ok { IfOk result (λ i. (first (identity_faults client (table_view table.now)) ≡ None)
+        × (i.name ≡ (client_of (table_view table.now)).name)
+        × (i.address ≡ (client_of (table_view table.now)).address)
+        × (i.secret ≡ (client_of (table_view table.now)).secret)) }
     ensures err { IfErr result (λ e. e ≢ fault.NoMemory → first (identity_faults client (table_view table.now)) ≡ Some e) }
 {
     Ok(Identity {
@@ -86,9 +86,9 @@ fn read_identity(alloc: Global, table: &Table, client: u32) -> Result<Identity, 
 /// The peer that the client of a table is.
 #[tactic(auto, using(crate::proofs::FaultLemmas::first_passed, crate::proofs::FaultLemmas::first_stops), unfolding(crate::specs::Settings::client_of))]
 fn read_origin(alloc: Global, table: &Table, client: u32) -> Result<Origin, ConfigFault>
-    ensures ok { IfOk result (λ o. first (origin_faults client (table_view table.now)) ≡ None) }
-    ensures host { IfOk result (λ o. o.host ≡ (client_of (table_view table.now)).origin_host) }
-    ensures realm { IfOk result (λ o. o.realm ≡ (client_of (table_view table.now)).origin_realm) }
+    ensures ok { IfOk result (λ o. (first (origin_faults client (table_view table.now)) ≡ None)
+        × (o.host ≡ (client_of (table_view table.now)).origin_host)
+        × (o.realm ≡ (client_of (table_view table.now)).origin_realm)) }
     ensures err { IfErr result (λ e. e ≢ fault.NoMemory → first (origin_faults client (table_view table.now)) ≡ Some e) }
 {
     Ok(Origin {
@@ -100,10 +100,10 @@ fn read_origin(alloc: Global, table: &Table, client: u32) -> Result<Origin, Conf
 /// What holds for the client of a table.
 #[tactic(auto, using(crate::proofs::FaultLemmas::first_passed, crate::proofs::FaultLemmas::first_stops), unfolding(crate::specs::Settings::client_of))]
 fn read_rules(alloc: Global, table: &Table, client: u32) -> Result<Rules, ConfigFault>
-    ensures ok { IfOk result (λ r. first (rule_faults client (table_view table.now)) ≡ None) }
-    ensures seal { IfOk result (λ r. r.require_seal ≡ (client_of (table_view table.now)).require_seal) }
-    ensures keys { IfOk result (λ r. r.omit_keys ≡ (client_of (table_view table.now)).omit_keys) }
-    ensures nas { IfOk result (λ r. r.nas ≡ (client_of (table_view table.now)).nas) }
+    ensures ok { IfOk result (λ r. (first (rule_faults client (table_view table.now)) ≡ None)
+        × (r.require_seal ≡ (client_of (table_view table.now)).require_seal)
+        × (r.omit_keys ≡ (client_of (table_view table.now)).omit_keys)
+        × (r.nas ≡ (client_of (table_view table.now)).nas)) }
     ensures err { IfErr result (λ e. e ≢ fault.NoMemory → first (rule_faults client (table_view table.now)) ≡ Some e) }
 {
     Ok(Rules {
@@ -178,11 +178,11 @@ struct Figures {
 /// The names of the top table, and its address.
 #[tactic(auto, using(crate::proofs::FaultLemmas::first_passed, crate::proofs::FaultLemmas::first_stops), unfolding(crate::specs::Settings::top_of))]
 fn read_names(alloc: Global, table: &Table) -> Result<Names, ConfigFault>
-    ensures ok { IfOk result (λ n. first (name_faults (table_view table.now)) ≡ None) }
-    ensures host { IfOk result (λ n. n.host ≡ (top_of (table_view table.now)).host) }
-    ensures realm { IfOk result (λ n. n.realm ≡ (top_of (table_view table.now)).realm) }
-    ensures home { IfOk result (λ n. n.home_realm ≡ (top_of (table_view table.now)).home_realm) }
-    ensures address { IfOk result (λ n. n.address ≡ (top_of (table_view table.now)).address) }
+    ensures ok { IfOk result (λ n. (first (name_faults (table_view table.now)) ≡ None)
+        × (n.host ≡ (top_of (table_view table.now)).host)
+        × (n.realm ≡ (top_of (table_view table.now)).realm)
+        × (n.home_realm ≡ (top_of (table_view table.now)).home_realm)
+        × (n.address ≡ (top_of (table_view table.now)).address)) }
     ensures err { IfErr result (λ e. e ≢ fault.NoMemory → first (name_faults (table_view table.now)) ≡ Some e) }
 {
     let host = name(alloc, table, 0, "host")?;
@@ -203,13 +203,13 @@ fn read_names(alloc: Global, table: &Table) -> Result<Names, ConfigFault>
 /// The numbers of the top table.
 #[tactic(auto, using(crate::proofs::FaultLemmas::first_passed, crate::proofs::FaultLemmas::first_stops), unfolding(crate::specs::Settings::top_of))]
 fn read_figures(alloc: Global, table: &Table) -> Result<Figures, ConfigFault>
-    ensures ok { IfOk result (λ f. first (number_faults (table_view table.now)) ≡ None) }
-    ensures boot { IfOk result (λ f. f.boot ≡ (top_of (table_view table.now)).boot) }
-    ensures retention { IfOk result (λ f. f.retention ≡ (top_of (table_view table.now)).retention) }
-    ensures patience { IfOk result (λ f. f.patience ≡ (top_of (table_view table.now)).patience) }
-    ensures capacity { IfOk result (λ f. f.capacity ≡ (top_of (table_view table.now)).capacity) }
-    ensures backlog { IfOk result (λ f. f.backlog ≡ (top_of (table_view table.now)).backlog) }
-    ensures watchdog { IfOk result (λ f. f.watchdog ≡ (top_of (table_view table.now)).watchdog) }
+    ensures ok { IfOk result (λ f. (first (number_faults (table_view table.now)) ≡ None)
+        × (f.boot ≡ (top_of (table_view table.now)).boot)
+        × (f.retention ≡ (top_of (table_view table.now)).retention)
+        × (f.patience ≡ (top_of (table_view table.now)).patience)
+        × (f.capacity ≡ (top_of (table_view table.now)).capacity)
+        × (f.backlog ≡ (top_of (table_view table.now)).backlog)
+        × (f.watchdog ≡ (top_of (table_view table.now)).watchdog)) }
     ensures err { IfErr result (λ e. e ≢ fault.NoMemory → first (number_faults (table_view table.now)) ≡ Some e) }
 {
     let boot = small_number(alloc, table, "boot", 0, u32::MAX)?;

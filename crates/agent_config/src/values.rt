@@ -82,7 +82,6 @@ pub(crate) fn keys_choice_in(value: &Value) -> Option<bool>
 }
 
 /// The addresses of some values, where each is one.
-#[tactic(auto, using(crate::proofs::ValueLemmas::each_stop, crate::proofs::ValueLemmas::each_on))]
 fn each_address(alloc: Global, array: &[Value]) -> Result<Option<AddressList>, NoMemory>
     ensures { IfOk result (λ read. read ≡ values.each values.address_of (items_view array.now)) }
 {
