@@ -1,5 +1,6 @@
 //! What a control line tells.
 
+ghost use Rattle.std.specs.Prelude.{[], ◌∷◌};
 ghost use Rattle.transcript.specs.Lines as lines;
 ghost use Rattle.transcript.specs.Reads.{Reads};
 ghost use Rattle.transcript.specs.Views.{plain};
@@ -18,17 +19,30 @@ pub(crate) struct Control {
     pub(crate) octets: Octets,
 }
 
+/// What these words of a control line tell.
+fn control_by(
+    alloc: Global,
+    moment: &[u8],
+    address: &[u8],
+    port: &[u8],
+    hex: &[u8],
+) -> Result<Control, WordFault>
+    ensures { Reads result (lines.control_of (moment.now ∷ [] ∷ address.now ∷ port.now ∷ hex.now ∷ [])) }
+{
+    Ok(Control {
+        moment: read_number(moment, u64::MAX)?,
+        address: read_address(address)?,
+        port: read_u16(port)?,
+        octets: read_hex(alloc, hex)?,
+    })
+}
+
 /// The words of a control line.
 pub(crate) fn read_control(alloc: Global, words: &[&[u8]]) -> Result<Control, WordFault>
     ensures { Reads result (lines.control_of (plain words.now)) }
 {
     match words {
-        [moment, _, address, port, hex] => Ok(Control {
-            moment: read_number(moment, u64::MAX)?,
-            address: read_address(address)?,
-            port: read_u16(port)?,
-            octets: read_hex(alloc, hex)?,
-        }),
+        [moment, _, address, port, hex] => control_by(alloc, moment, address, port, hex),
         _ => Err(WordFault::Bad),
     }
 }

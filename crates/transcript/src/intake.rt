@@ -1,6 +1,6 @@
 //! The octets of a source, taken a chunk at a time.
 
-ghost use Rattle.std.specs.Prelude.{◌≡◌, ◌+◌, ◌<◌, ◌≤◌, [], length, take, drop, Ok, Err, Some, None, IfSome, IfNone, IfOk, false};
+ghost use Rattle.std.specs.Prelude.{◌≡◌, ◌+◌, ◌<◌, ◌≤◌, [], length, take, drop, Ok, Err, Some, None, IfSome, IfNone, IfOk, false, ◌≢◌};
 ghost use Rattle.wire_core.specs.Counts.{Counts};
 ghost use Rattle.wire_core.specs.Source.{Consumes, IsAtEnd};
 ghost use Rattle.transcript.specs.Streams.{Refills, most_octets};
@@ -77,6 +77,16 @@ impl Intake {
         self.passed += count as u64;
     }
 
+    /// How many octets the next read asks for: one more than may be taken, where all are.
+    fn room(&self) -> usize
+        ensures some { 0 < result }
+        ensures inside { result ≤ 65536 }
+        ensures within { self.now.passed ≢ most_octets → self.now.passed + result ≤ most_octets }
+        ensures one { self.now.passed ≡ most_octets → result ≡ 1 }
+    {
+        (MOST - self.passed).clamp(1, CHUNK as u64) as usize
+    }
+
     /// Takes more octets of the source: whether some came, or the source is at its end.
     pub(crate) fn refill<S: Source>(&mut self, source: &mut S) -> Result<bool, TakeFault>
         requires { self.old.octets ≡ [] }
@@ -85,9 +95,9 @@ impl Intake {
         ensures counts_ends { Counts (result ≡ Ok false) (S.ends source.old) (S.ends source.new) }
         ensures counts_faults { Counts (result ≡ Err Read) (S.faults source.old) (S.faults source.new) }
     {
+        let room = self.room();
         self.start = 0;
         self.end = 0;
-        let room = (MOST - self.passed).clamp(1, CHUNK as u64) as usize;
         match read_front(source, &mut self.chunk, room) {
             None => Err(TakeFault::Read),
             Some(0) => Ok(false),

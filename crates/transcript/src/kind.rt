@@ -1,6 +1,7 @@
 //! Which line of a transcript words are.
 
 ghost use Rattle.std.specs.Prelude.{◌≡◌};
+ghost use Rattle.std.specs.Str.{bytes_eq};
 ghost use Rattle.transcript.specs.Kinds as kinds;
 ghost use Rattle.transcript.specs.Views.{plain};
 
@@ -28,26 +29,33 @@ pub(crate) enum Kind {
     Control,
 }
 
+/// Whether a word is this name.
+fn is_name(word: &[u8], name: &[u8]) -> bool
+    ensures { result ≡ bytes_eq word.now name.now }
+{
+    word == name
+}
+
 fn event_name(word: &[u8]) -> Option<EventName>
     ensures { result ≡ kinds.event_name word.now }
 {
-    if word == b"auth".as_slice() {
+    if is_name(word, b"auth") {
         Some(EventName::Datagram(Via::Auth))
-    } else if word == b"acct".as_slice() {
+    } else if is_name(word, b"acct") {
         Some(EventName::Datagram(Via::Acct))
-    } else if word == b"link".as_slice() {
+    } else if is_name(word, b"link") {
         Some(EventName::Link)
-    } else if word == b"up".as_slice() {
+    } else if is_name(word, b"up") {
         Some(EventName::Up)
-    } else if word == b"ready".as_slice() {
+    } else if is_name(word, b"ready") {
         Some(EventName::Ready)
-    } else if word == b"down".as_slice() {
+    } else if is_name(word, b"down") {
         Some(EventName::Down)
-    } else if word == b"tick".as_slice() {
+    } else if is_name(word, b"tick") {
         Some(EventName::Tick)
-    } else if word == b"drain".as_slice() {
+    } else if is_name(word, b"drain") {
         Some(EventName::Drain)
-    } else if word == b"leave".as_slice() {
+    } else if is_name(word, b"leave") {
         Some(EventName::Leave)
     } else {
         None

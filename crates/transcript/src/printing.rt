@@ -134,33 +134,46 @@ pub fn print_drop(alloc: Global, line: u64, number: u32, name: &str) -> Result<O
     Ok(Octets::from_vec(text.into_bytes()))
 }
 
-fn fault_name(fault: FrameFault) -> &'static str
-    ensures { result.now ≡ text.fault_name fault }
+/// The words of a link that broke.
+fn broken_words(fault: FrameFault) -> &'static str
+    ensures { result.now ≡ codes "Broken" ++ 32 ∷ text.fault_name fault }
 {
     match fault {
-        FrameFault::BadVersion => "BadVersion",
-        FrameFault::BadLength => "BadLength",
-        FrameFault::TooLong => "TooLong",
+        FrameFault::BadVersion => "Broken BadVersion",
+        FrameFault::BadLength => "Broken BadLength",
+        FrameFault::TooLong => "Broken TooLong",
     }
+}
+
+/// The line of a link that was closed, with these words of its cause.
+fn cause_line(alloc: Global, line: u64, words: &str) -> Result<Octets, NoMemory>
+    ensures { IfOk result (λ o. o ≡ text.line_text (decimal line ∷ codes "close" ∷ words.now ∷ [])) }
+{
+    let text = format!(in alloc; "{line} close {words}\n")?;
+    Ok(Octets::from_vec(text.into_bytes()))
+}
+
+/// The line of a link that was closed, with its cause's name and code.
+fn code_line(alloc: Global, line: u64, name: &str, code: u32) -> Result<Octets, NoMemory>
+    ensures { IfOk result (λ o. o ≡ text.line_text (decimal line ∷ codes "close" ∷ name.now ∷ decimal code ∷ [])) }
+{
+    let text = format!(in alloc; "{line} close {name} {code}\n")?;
+    Ok(Octets::from_vec(text.into_bytes()))
 }
 
 /// The line of a link that was closed.
 fn close_line(alloc: Global, line: u64, cause: LinkCause) -> Result<Octets, NoMemory>
     ensures { IfOk result (λ o. o ≡ text.output_line line (Closed cause)) }
 {
-    let text = match cause {
-        LinkCause::Refused { result: code } => format!(in alloc; "{line} close Refused {code}\n")?,
-        LinkCause::PeerLeft { cause: code } => format!(in alloc; "{line} close PeerLeft {code}\n")?,
-        LinkCause::Broken { fault } => {
-            let name = fault_name(fault);
-            format!(in alloc; "{line} close Broken {name}\n")?
-        }
-        LinkCause::Ended => format!(in alloc; "{line} close Ended\n")?,
-        LinkCause::Watchdog => format!(in alloc; "{line} close Watchdog\n")?,
-        LinkCause::Stalled => format!(in alloc; "{line} close Stalled\n")?,
-        LinkCause::Left => format!(in alloc; "{line} close Left\n")?,
-    };
-    Ok(Octets::from_vec(text.into_bytes()))
+    match cause {
+        LinkCause::Refused { result: code } => code_line(alloc, line, "Refused", code),
+        LinkCause::PeerLeft { cause: code } => code_line(alloc, line, "PeerLeft", code),
+        LinkCause::Broken { fault } => cause_line(alloc, line, broken_words(fault)),
+        LinkCause::Ended => cause_line(alloc, line, "Ended"),
+        LinkCause::Watchdog => cause_line(alloc, line, "Watchdog"),
+        LinkCause::Stalled => cause_line(alloc, line, "Stalled"),
+        LinkCause::Left => cause_line(alloc, line, "Left"),
+    }
 }
 
 /// The line of an output of the input on this line.
