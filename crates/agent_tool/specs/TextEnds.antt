@@ -3,8 +3,8 @@ use Rattle.std.specs.Prelude.{◌≡◌, ℕ, ◌≤◌, Bool, true, false, List
 use Rattle.agent_settings.specs.declared.config.Config.{Config}
 use Rattle.agent_config.specs.Settings.{settings_in}
 use Rattle.agent_status.specs.declared.status.Status.{Status}
-use Rattle.transcript.specs.Streams.{most_octets}
-use Rattle.transcript.specs.Words.{lines_of}
+use Rattle.text_lines.specs.Streams.{most_octets}
+use Rattle.text_lines.specs.Words.{lines_of}
 use Rattle.dynamic_command.specs.Dynamic.{dynamic_task}
 use Rattle.replay_command.specs.Measured.{MeasuresBy}
 use Rattle.replay_command.specs.Replay.{replay_task}

@@ -2,7 +2,7 @@
 use Rattle.std.specs.Prelude.{ℕ, ◌^◌, ◌≤◌, ◌==◌, List, [], ◌∷◌, Option, Some, None, String, string_bytes, bytes_eq, codes, option_map, if◌then◌else◌}
 use Rattle.std.specs.declared.alloc.Global.{Global}
 use Rattle.agent_config.specs.Values.{address_in}
-use Rattle.transcript.specs.Words.{◌>>=◌, number_word}
+use Rattle.text_lines.specs.Words.{◌>>=◌, number_word}
 use Rattle.command_line.specs.declared.command.Places.{Places}
 use Rattle.command_line.specs.declared.command.Places.TheVariants as places
 use Rattle.command_line.specs.declared.command.TextCommand.{TextCommand}

@@ -14,8 +14,8 @@ use Rattle.session_book.specs.declared.events.BookReason.TheVariants.{AbortOpen,
 use Rattle.session_book.specs.Reasons.{reason_number}
 use Rattle.session_book.specs.Places.{BookEvent, BookPlace}
 use Rattle.session_book.specs.History.{place}
-use Rattle.transcript.specs.Text as text
-use Rattle.transcript.specs.Text.{output_line, control_line, drop_line, end_line_with_controls}
+use Rattle.printed_lines.specs.Text as text
+use Rattle.printed_lines.specs.Text.{output_line, control_line, drop_line, end_line_with_controls}
 use Rattle.transcript.specs.Told as told
 use Rattle.transcript.specs.Told.{Told, after_lines, given_by}
 use Rattle.transcript.specs.declared.line.Line.{Line}

@@ -4,8 +4,8 @@ ghost use Rattle.std.specs.Prelude.{◌≡◌, ◌≢◌, ◌≤◌, ◌⊎◌, 
 ghost use Rattle.wire_core.specs.Counts.{Rose};
 ghost use Rattle.dynamic_command.specs.Dynamic.{dynamic_task};
 ghost use Rattle.text_commands.specs.Tasks.{EndsBy, EndsCounts};
-ghost use Rattle.transcript.specs.Streams.{most_octets};
-ghost use Rattle.transcript.specs.Words.{lines_of};
+ghost use Rattle.text_lines.specs.Streams.{most_octets};
+ghost use Rattle.text_lines.specs.Words.{lines_of};
 
 use crate::session::BookSession;
 use agent_status::Status;

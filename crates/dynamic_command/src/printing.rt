@@ -9,10 +9,10 @@ ghost use Rattle.dynamic_command.specs.Dynamic as lines;
 ghost use Rattle.text_commands.specs.Transcripts.{IsFailure};
 
 use agent_status::Status;
+use printed_lines::{print, print_control, print_drop};
 use session_book::{BookOutput, BookReason};
 use std::alloc::Global;
 use text_commands::write_text;
-use transcript::{print, print_control, print_drop};
 use wire_core::{NoMemory, Octets, Sink};
 
 fn reason_name(reason: BookReason) -> &'static str

@@ -18,11 +18,12 @@ use crate::printing::write_outputs;
 use agent_events::Input;
 use agent_settings::{Client, Config};
 use agent_status::Status;
+use printed_lines::print_end_with_controls;
 use session_book::{BookCore, BookInput};
 use std::alloc::Global;
 use std::hash::RandomState;
 use text_commands::{Follower, join_client};
-use transcript::{Line, LineReader, print_end_with_controls};
+use transcript::{Line, LineReader};
 use wire_core::{NoMemory, Put, Sink};
 
 /// What the lines so far made of the book: settings, and a book with its core once an event came.

@@ -6,7 +6,7 @@ use Rattle.std.proofs.lemmas.Grind.{flat_map-append}
 use Rattle.std.proofs.lemmas.List.{append-nil}
 use Rattle.std.proofs.lemmas.List.Concat.{flat_map-cons}
 use Rattle.wire_core.specs.Counts.{one_more}
-use Rattle.transcript.specs.Reading.{Bad}
+use Rattle.text_lines.specs.Stops.{Bad}
 use Rattle.test_peers.specs.PacketLines.{one_of, packet_in, packet_word}
 use Rattle.test_peers.specs.Lines.{words_of}
 use Rattle.text_commands.specs.Shown.{Shown, count_after}

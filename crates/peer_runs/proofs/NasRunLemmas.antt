@@ -11,13 +11,13 @@ use Rattle.wire_core.proofs.SourceLaws.{Consumes-told}
 use Rattle.wire_devices.specs.Sockets.{Socket}
 use Rattle.wire_devices.specs.Telling.{Adds}
 use Rattle.wire_devices.proofs.TellingLaws.{Adds-append, Adds-none}
-use Rattle.transcript.specs.Reading.{Bad}
-use Rattle.transcript.specs.Streams.{Cutting, IsUnended, TakesRawLine, TakesNone, most_octets, rest_of}
-use Rattle.transcript.specs.Words.{lines_of}
-use Rattle.transcript.specs.declared.raw_lines.RawFault.{RawFault}
-use Rattle.transcript.specs.declared.raw_lines.RawFault.TheVariants as raw
-use Rattle.transcript.specs.declared.raw_lines.RawLine.{RawLine}
-use Rattle.transcript.specs.declared.raw_lines.RawLine.TheVariants.{Line, LastLine, End}
+use Rattle.text_lines.specs.Stops.{Bad}
+use Rattle.text_lines.specs.Streams.{Cutting, IsUnended, TakesRawLine, TakesNone, most_octets, rest_of}
+use Rattle.text_lines.specs.Words.{lines_of}
+use Rattle.text_lines.specs.declared.raw_lines.RawFault.{RawFault}
+use Rattle.text_lines.specs.declared.raw_lines.RawFault.TheVariants as raw
+use Rattle.text_lines.specs.declared.raw_lines.RawLine.{RawLine}
+use Rattle.text_lines.specs.declared.raw_lines.RawLine.TheVariants.{Line, LastLine, End}
 use Rattle.agent_status.specs.declared.status.Status.{Status}
 use Rattle.agent_status.specs.declared.status.Status.TheVariants.{Done, Usage, BadConfig, BadTranscript, ReadFault, WriteFault, OutOfMemory, TooLong, LinkFault, PeerRefused, NoThread, DatagramFault, LinkEnded}
 use Rattle.test_peers.specs.PacketLines.{packet_in}

@@ -8,10 +8,10 @@ use Rattle.wire_core.specs.Sink.{Appends, AppendsPrefix}
 use Rattle.wire_devices.specs.Sockets.{Socket}
 use Rattle.agent_status.specs.declared.status.Status.{Status}
 use Rattle.agent_status.specs.declared.status.Status.TheVariants.{BadTranscript, ReadFault, WriteFault, OutOfMemory, DatagramFault, TooLong}
-use Rattle.transcript.specs.Reading.{Bad}
-use Rattle.transcript.specs.Words.{lines_of}
-use Rattle.transcript.specs.declared.raw_lines.RawFault.{RawFault}
-use Rattle.transcript.specs.declared.raw_lines.RawFault.TheVariants as raw
+use Rattle.text_lines.specs.Stops.{Bad}
+use Rattle.text_lines.specs.Words.{lines_of}
+use Rattle.text_lines.specs.declared.raw_lines.RawFault.{RawFault}
+use Rattle.text_lines.specs.declared.raw_lines.RawFault.TheVariants as raw
 use Rattle.test_peers.specs.PacketLines.{packet_in}
 use Rattle.text_commands.specs.Shown.{Shown}
 use Rattle.text_commands.specs.Tasks.{EndsBy, Task, WritesPart}

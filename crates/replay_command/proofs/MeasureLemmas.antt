@@ -2,7 +2,7 @@
 use Rattle.std.proofs.Common.{◌≡◌, ℕ, List, [], ◌∷◌, ◌++◌, append_assoc, Option, Some, None, refl, sym, ap, ◌∙◌, subst, arith}
 use Rattle.std.proofs.lemmas.List.{append-nil}
 use Rattle.wire_core.specs.Counts.{Rose}
-use Rattle.transcript.specs.Reading.{Bad}
+use Rattle.text_lines.specs.Stops.{Bad}
 use Rattle.text_commands.proofs.FollowingLemmas.{is-task}
 use Rattle.text_commands.specs.declared.following.TranscriptWork.{TranscriptWork}
 use Rattle.replay_command.specs.declared.session.Session.{Session}

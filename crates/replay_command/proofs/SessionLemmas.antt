@@ -16,7 +16,7 @@ use Rattle.agent_core.specs.Places.{Event, Place}
 use Rattle.agent_core.specs.History.{place, outputs_after}
 use Rattle.agent_core.specs.Standing.{StandsFor}
 use Rattle.agent_core.specs.Laws.{PastGoesOn}
-use Rattle.transcript.specs.Text.{output_line, is_reply, is_send, is_drop}
+use Rattle.printed_lines.specs.Text.{output_line, is_reply, is_send, is_drop}
 use Rattle.replay_command.specs.Run.{Running, Settings, Stage, event_at, first, follow, inputs_text, printed_for, outputs_of, places_after, stage_after}
 use Rattle.transcript.specs.declared.line.Line.{Line}
 use Rattle.transcript.specs.declared.line.Line.TheVariants as line

@@ -1,6 +1,6 @@
 -- How the command `measure` ends.
 use Rattle.std.specs.Prelude.{◌≡◌, ℕ, List, ◌++◌, Option}
-use Rattle.transcript.specs.Generator.{generated_lines}
+use Rattle.generated_logins.specs.Generator.{generated_lines}
 use Rattle.agent_status.specs.declared.status.Status.{Status}
 use Rattle.text_commands.specs.declared.following.TranscriptWork.{TranscriptWork}
 use Rattle.text_commands.specs.Following.{Takes}

@@ -7,7 +7,7 @@ use Rattle.agent_events.specs.declared.events.Input.{Input}
 use Rattle.agent_events.specs.declared.events.Output.{Output}
 use Rattle.agent_core.specs.Places.{Event, Place}
 use Rattle.agent_core.specs.History.{place}
-use Rattle.transcript.specs.Text.{end_line, is_drop, is_reply, is_send, output_line}
+use Rattle.printed_lines.specs.Text.{end_line, is_drop, is_reply, is_send, output_line}
 use Rattle.transcript.specs.declared.line.Line.{Line}
 use Rattle.transcript.specs.declared.line.Line.TheVariants as line
 use Rattle.transcript.specs.Told as told

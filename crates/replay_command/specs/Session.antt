@@ -8,7 +8,7 @@ use Rattle.agent_core.specs.declared.ledger.Ledger.{Ledger}
 use Rattle.agent_core.specs.Places.{Event, Place}
 use Rattle.agent_core.specs.History.{place, past}
 use Rattle.agent_core.specs.Standing.{StandsFor}
-use Rattle.transcript.specs.Text.{output_line, is_reply, is_send, is_drop}
+use Rattle.printed_lines.specs.Text.{output_line, is_reply, is_send, is_drop}
 use Rattle.replay_command.specs.Run.{Stage, Settings, Running, first, follow, printed_for, outputs_of, stage_after}
 use Rattle.transcript.specs.declared.line.Line.{Line}
 use Rattle.replay_command.specs.declared.session.Counts.{Counts}

@@ -7,10 +7,10 @@ ghost use Rattle.replay_command.specs.Replay.{replay_task};
 
 use crate::session::Session;
 use agent_status::Status;
+use generated_logins::Generator;
 use std::alloc::Global;
 use std::hash::RandomState;
 use text_commands::{TranscriptWork, Work};
-use transcript::Generator;
 use wire_core::{Sink, SteadySink};
 
 /// Replays all lines that are still to come, and keeps nothing of what they print.

@@ -8,7 +8,7 @@ ghost use Rattle.agent_settings.specs.declared.config.Config.{Config};
 ghost use Rattle.agent_settings.specs.Config.{InLimits, find_address};
 ghost use Rattle.agent_core.specs.Places.{Place};
 ghost use Rattle.agent_core.specs.History.{place};
-ghost use Rattle.transcript.specs.Text.{output_line, is_reply as reply_test, is_send as send_test, is_drop as drop_test};
+ghost use Rattle.printed_lines.specs.Text.{output_line, is_reply as reply_test, is_send as send_test, is_drop as drop_test};
 ghost use Rattle.replay_command.specs.Run.{Stage, event_at, first, follow as stage_on, inputs_text, printed_for, places_after, told_of};
 ghost use Rattle.transcript.specs.Told.{CanFollow};
 ghost use Rattle.transcript.specs.declared.line.Line.TheVariants as line;
@@ -20,10 +20,11 @@ use agent_core::Core;
 use agent_events::{Input, Output};
 use agent_settings::{Client, Config};
 use agent_status::Status;
+use printed_lines::{print, print_end};
 use std::alloc::Global;
 use std::hash::RandomState;
 use text_commands::{Follower, join_client};
-use transcript::{Line, LineReader, print, print_end};
+use transcript::{Line, LineReader};
 use wire_core::{NoMemory, Put, Sink};
 
 /// How many lines of each kind were printed. A count stands still at its end.

@@ -4,9 +4,9 @@ use Rattle.std.specs.Prelude.{is_some}
 use Rattle.std.proofs.lemmas.List.{append-nil}
 use Rattle.wire_core.specs.Counts.{one_more}
 use Rattle.wire_core.specs.Sink.{Appends, AppendsPrefix}
-use Rattle.transcript.specs.Reading.{Bad}
-use Rattle.transcript.specs.Text.{end_line}
-use Rattle.transcript.specs.Words.{words_of}
+use Rattle.text_lines.specs.Stops.{Bad}
+use Rattle.printed_lines.specs.Text.{end_line}
+use Rattle.text_lines.specs.Words.{words_of}
 use Rattle.agent_status.specs.declared.status.Status.{Status}
 use Rattle.agent_status.specs.declared.status.Status.TheVariants.{Done, Usage, BadConfig, BadTranscript, ReadFault, WriteFault, OutOfMemory, TooLong, LinkFault, PeerRefused, NoThread, DatagramFault, LinkEnded}
 use Rattle.text_commands.specs.Tasks.{Adds, IsTask, WorksNot}

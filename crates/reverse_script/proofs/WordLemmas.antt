@@ -1,6 +1,6 @@
 -- The words of a line of settings by their places.
 use Rattle.std.proofs.Common.{◌≡◌, ℕ, ◌<◌, ◌≤◌, List, [], ◌∷◌, length, None, Bor, slice_index_or, refl, arith}
-use Rattle.transcript.specs.Views.{plain}
+use Rattle.text_lines.specs.Views.{plain}
 use Rattle.reverse_script.specs.Script.{own_by, own_of}
 
 pub too_few : (ws : List (Bor (List ℕ))) → length ws < 7 → own_of (plain ws) ≡ None

@@ -10,8 +10,8 @@ use Rattle.reverse_core.specs.declared.events.ReverseReason.TheVariants.{NotRequ
 use Rattle.reverse_core.specs.Reasons.{reason_number}
 use Rattle.reverse_core.specs.Places.{ReverseEvent, ReversePlace}
 use Rattle.reverse_core.specs.History.{place}
-use Rattle.transcript.specs.Reading.{Bad}
-use Rattle.transcript.specs.Text.{drop_line, end_line, hex_text, line_text}
+use Rattle.text_lines.specs.Stops.{Bad}
+use Rattle.printed_lines.specs.Text.{drop_line, end_line, hex_text, line_text}
 use Rattle.text_commands.specs.Tasks.{Task}
 use Rattle.reverse_script.specs.Script.{Said, Tells, Comes, read_line}
 

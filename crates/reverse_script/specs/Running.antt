@@ -4,8 +4,8 @@ use Rattle.std.specs.List.{flat_map}
 use Rattle.wire_core.specs.Sink.{Appends}
 use Rattle.agent_status.specs.declared.status.Status.{Status}
 use Rattle.agent_status.specs.declared.status.Status.TheVariants.{BadTranscript, OutOfMemory}
-use Rattle.transcript.specs.declared.word_fault.WordFault.{WordFault}
-use Rattle.transcript.specs.declared.word_fault.WordFault.TheVariants as words
+use Rattle.text_lines.specs.declared.word_fault.WordFault.{WordFault}
+use Rattle.text_lines.specs.declared.word_fault.WordFault.TheVariants as words
 use Rattle.reverse_map.specs.declared.own.Reverse.{Reverse}
 use Rattle.reverse_core.specs.declared.events.ReverseInput.{ReverseInput}
 use Rattle.reverse_core.specs.declared.events.ReverseOutput.{ReverseOutput}

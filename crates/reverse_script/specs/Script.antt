@@ -3,7 +3,7 @@ use Rattle.std.specs.Prelude.{ℕ, Bool, true, false, nat_le, nat_lt, not, ◌==
 use Rattle.std.specs.Str.{bytes_eq}
 use Rattle.agent_config.specs.Values.{address_in}
 use Rattle.agent_settings.specs.Config.{is_between, is_name}
-use Rattle.transcript.specs.Words.{◌>>=◌, hex_word, number_word, words_of}
+use Rattle.text_lines.specs.Words.{◌>>=◌, hex_word, number_word, words_of}
 use Rattle.reverse_map.specs.declared.own.Reverse.{Reverse}
 use Rattle.reverse_core.specs.Places.{ReverseEvent}
 use Rattle.reverse_core.specs.declared.events.ReverseInput.{ReverseInput}

@@ -4,8 +4,8 @@ ghost use Rattle.std.specs.Prelude.{◌≡◌, ◌≢◌, ◌≤◌, ◌⊎◌, 
 ghost use Rattle.wire_core.specs.Counts.{Rose};
 ghost use Rattle.reverse_script.specs.Printed.{reverse_task};
 ghost use Rattle.text_commands.specs.Tasks.{EndsBy, EndsCounts};
-ghost use Rattle.transcript.specs.Streams.{most_octets};
-ghost use Rattle.transcript.specs.Words.{lines_of};
+ghost use Rattle.text_lines.specs.Streams.{most_octets};
+ghost use Rattle.text_lines.specs.Words.{lines_of};
 
 use crate::work::ReverseWork;
 use agent_status::Status;

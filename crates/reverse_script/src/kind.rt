@@ -2,7 +2,7 @@
 
 ghost use Rattle.std.specs.Prelude.{◌≡◌};
 ghost use Rattle.reverse_script.specs.Script as script;
-ghost use Rattle.transcript.specs.Views.{plain};
+ghost use Rattle.text_lines.specs.Views.{plain};
 
 /// What an event line's second word names.
 #[derive(Clone, Copy)]

@@ -2,8 +2,8 @@
 
 ghost use Rattle.std.specs.Prelude.{◌≡◌, IfNone, IfOk, IfSome, IsTrue, None};
 ghost use Rattle.agent_settings.specs.Config as settings;
-ghost use Rattle.transcript.specs.Reads.{Reads};
-ghost use Rattle.transcript.specs.Views.{plain};
+ghost use Rattle.text_lines.specs.Reads.{Reads};
+ghost use Rattle.text_lines.specs.Views.{plain};
 ghost use Rattle.reverse_script.specs.Script as script;
 ghost use Rattle.reverse_script.specs.Running.{IsInLimits, Says, fault_of, own_told};
 
@@ -11,8 +11,8 @@ use crate::kind::{EventName, Kind, kind_of};
 use reverse_core::ReverseInput;
 use reverse_map::Reverse;
 use std::alloc::Global;
-use transcript::WordFault;
-use transcript::words::{read_address, read_hex, read_number, read_u16, words_of};
+use text_lines::WordFault;
+use text_lines::words::{read_address, read_hex, read_number, read_u16, words_of};
 use wire_core::{NoMemory, Octets, is_identity};
 
 /// How many octets a line has at most.

@@ -9,10 +9,10 @@ ghost use Rattle.reverse_script.specs.Printed as printed;
 ghost use Rattle.reverse_script.specs.Printed.{output_line};
 
 use agent_status::Status;
+use printed_lines::{print_drop, with_hex};
 use reverse_core::{ReverseOutput, ReverseReason};
 use std::alloc::Global;
 use text_commands::write_text;
-use transcript::{print_drop, with_hex};
 use wire_core::{NoMemory, Octets, Sink};
 
 fn reason_name(reason: ReverseReason) -> &'static str

@@ -16,11 +16,11 @@ use crate::counts::Counts;
 use crate::line::{ScriptFault, ScriptLine, read_line};
 use crate::printing::write_outputs;
 use agent_status::Status;
+use printed_lines::print_end;
 use reverse_core::{ReverseCore, ReverseInput};
 use reverse_map::Reverse;
 use std::alloc::Global;
 use text_commands::Work;
-use transcript::print_end;
 use wire_core::{Put, Sink};
 
 /// What the lines so far made: the core once settings were told, and how many lines and outputs there were.

@@ -10,8 +10,8 @@ use Rattle.agent_status.specs.declared.status.Status.TheVariants.{DatagramFault}
 use Rattle.test_peers.specs.declared.users.User.{User}
 use Rattle.test_peers.specs.PacketLines.{packet_in}
 use Rattle.test_peers.specs.Users.{users_in}
-use Rattle.transcript.specs.Streams.{most_octets}
-use Rattle.transcript.specs.Words.{lines_of}
+use Rattle.text_lines.specs.Streams.{most_octets}
+use Rattle.text_lines.specs.Words.{lines_of}
 use Rattle.text_commands.specs.WholeInput.{most_whole}
 use Rattle.peer_runs.specs.HomeRuns.{HomeBy, IsSound}
 use Rattle.peer_runs.specs.NasRuns.{NasEnds}

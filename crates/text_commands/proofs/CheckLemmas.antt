@@ -7,7 +7,7 @@ use Rattle.wire_core.proofs.SourceLaws.{Consumes-told}
 use Rattle.wire_core.specs.Sink.{Appends, AppendsPrefix}
 use Rattle.agent_settings.specs.declared.config.Config.{Config}
 use Rattle.agent_config.specs.Settings.{settings_in}
-use Rattle.transcript.specs.SettingsText.{settings_text}
+use Rattle.printed_lines.specs.SettingsText.{settings_text}
 use Rattle.agent_status.specs.declared.status.Status.{Status}
 use Rattle.agent_status.specs.declared.status.Status.TheVariants.{Done, Usage, BadConfig, BadTranscript, ReadFault, WriteFault, OutOfMemory, TooLong, LinkFault, PeerRefused, NoThread, DatagramFault, LinkEnded}
 use Rattle.text_commands.specs.Checks.{ChecksBy}

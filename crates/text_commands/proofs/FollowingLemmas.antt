@@ -4,7 +4,8 @@ use Rattle.std.proofs.lemmas.List.{append-nil}
 use Rattle.wire_core.specs.Counts.{one_more}
 use Rattle.wire_core.specs.Sink.{AppendsPrefix}
 use Rattle.transcript.specs.Positions.{IsReading, StandsAt, TakesBad, TakesLine, TakesStep}
-use Rattle.transcript.specs.Reading.{At, Bad, Said, Step, beginning, read_from, read_line, said_on}
+use Rattle.text_lines.specs.Stops.{Bad}
+use Rattle.transcript.specs.Reading.{At, Said, Step, beginning, read_from, read_line, said_on}
 use Rattle.transcript.specs.Told.{Agrees, CanFollow, LinesCanFollow, Settings, told_by, told_on}
 use Rattle.transcript.specs.declared.line.Line.{Line}
 use Rattle.transcript.specs.declared.line_fault.LineFault.{LineFault}

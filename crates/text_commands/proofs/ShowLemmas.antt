@@ -3,9 +3,9 @@ use Rattle.std.proofs.Common.{◌≡◌, ℕ, ◌<◌, inl, Bool, true, nat_lt, 
 use Rattle.std.proofs.lemmas.List.{append-nil}
 use Rattle.wire_core.specs.Counts.{one_more}
 use Rattle.wire_core.specs.Sink.{AppendsPrefix}
-use Rattle.transcript.specs.Reading.{Bad}
-use Rattle.transcript.specs.Show.{show_line, show_words}
-use Rattle.transcript.specs.Words.{words_of}
+use Rattle.text_lines.specs.Stops.{Bad}
+use Rattle.printed_lines.specs.Show.{show_line, show_words}
+use Rattle.text_lines.specs.Words.{words_of}
 use Rattle.text_commands.specs.declared.showing.ShowWork.{ShowWork}
 use Rattle.agent_status.specs.declared.status.Status.{Status}
 use Rattle.agent_status.specs.declared.status.Status.TheVariants.{Done, Usage, BadConfig, BadTranscript, ReadFault, WriteFault, OutOfMemory, TooLong, LinkFault, PeerRefused, NoThread, DatagramFault, LinkEnded}

@@ -3,7 +3,7 @@ use Rattle.std.specs.Prelude.{◌≡◌, ℕ, List, Option, Some, Ok, Err}
 use Rattle.wire_core.specs.Sink.{Appends, AppendsPrefix}
 use Rattle.agent_settings.specs.declared.config.Config.{Config}
 use Rattle.agent_config.specs.Settings.{settings_in}
-use Rattle.transcript.specs.SettingsText.{settings_text}
+use Rattle.printed_lines.specs.SettingsText.{settings_text}
 use Rattle.agent_status.specs.declared.status.Status.{Status}
 use Rattle.agent_status.specs.declared.status.Status.TheVariants.{Done, BadConfig, WriteFault}
 use Rattle.text_commands.specs.WholeInput.{TakenWhole, TakesNot}

@@ -2,7 +2,7 @@
 use Rattle.std.specs.Prelude.{ℕ, List, Option}
 use Rattle.wire_core.specs.Counts.{Rose}
 use Rattle.wire_core.specs.Sink.{Appends, AppendsPrefix}
-use Rattle.transcript.specs.Generator.{generated_text}
+use Rattle.generated_logins.specs.Generator.{generated_text}
 use Rattle.agent_status.specs.declared.status.Status.{Status}
 use Rattle.agent_status.specs.declared.status.Status.TheVariants.{Done, WriteFault, OutOfMemory}
 

@@ -1,8 +1,8 @@
 -- What is shown of the lines of an input.
 use Rattle.std.specs.Prelude.{◌≡◌, ℕ, List, [], ◌∷◌, ◌++◌, Option, Some, None, Result, Ok, Err}
 use Rattle.wire_core.specs.Counts.{one_more}
-use Rattle.transcript.specs.Reading.{Bad}
-use Rattle.transcript.specs.Show.{show_line}
+use Rattle.text_lines.specs.Stops.{Bad}
+use Rattle.printed_lines.specs.Show.{show_line}
 use Rattle.text_commands.specs.declared.showing.ShowWork.{ShowWork}
 use Rattle.agent_status.specs.declared.status.Status.{Status}
 use Rattle.agent_status.specs.declared.status.Status.TheVariants.{BadTranscript, OutOfMemory}

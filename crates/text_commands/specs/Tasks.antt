@@ -4,11 +4,11 @@ use Rattle.std.specs.List.{AllByRecursion, flat_map}
 use Rattle.wire_core.specs.Counts.{Rose}
 use Rattle.wire_core.specs.Sink.{Appends, AppendsPrefix}
 use Rattle.wire_core.specs.Source.{Consumes}
-use Rattle.transcript.specs.Reading.{Bad}
-use Rattle.transcript.specs.Streams.{IsUnended, most_octets}
-use Rattle.transcript.specs.declared.raw_lines.RawFault.{RawFault}
-use Rattle.transcript.specs.declared.raw_lines.RawFault.TheVariants as raw
-use Rattle.transcript.specs.Words.{lines_of}
+use Rattle.text_lines.specs.Stops.{Bad}
+use Rattle.text_lines.specs.Streams.{IsUnended, most_octets}
+use Rattle.text_lines.specs.declared.raw_lines.RawFault.{RawFault}
+use Rattle.text_lines.specs.declared.raw_lines.RawFault.TheVariants as raw
+use Rattle.text_lines.specs.Words.{lines_of}
 use Rattle.agent_status.specs.declared.status.Status.{Status}
 use Rattle.agent_status.specs.declared.status.Status.TheVariants.{Done, BadConfig, BadTranscript, ReadFault, WriteFault, OutOfMemory, TooLong}
 

@@ -4,7 +4,7 @@ ghost use Rattle.std.specs.Prelude.{◌≡◌, ◌≢◌, ◌≤◌, ◌⊎◌, 
 ghost use Rattle.wire_core.specs.Counts.{Rose};
 ghost use Rattle.agent_settings.specs.declared.config.Config.{Config};
 ghost use Rattle.agent_config.specs.Settings.{settings_in};
-ghost use Rattle.transcript.specs.SettingsText.{settings_text};
+ghost use Rattle.printed_lines.specs.SettingsText.{settings_text};
 ghost use Rattle.text_commands.specs.Checks.{ChecksBy};
 ghost use Rattle.text_commands.specs.Tasks.{EndsCounts};
 ghost use Rattle.text_commands.specs.WholeInput.{most_whole};
@@ -13,8 +13,8 @@ use crate::settings_input::take_settings;
 use crate::work::write_text;
 use agent_settings::Config;
 use agent_status::Status;
+use printed_lines::print_settings;
 use std::alloc::Global;
-use transcript::print_settings;
 use wire_core::{Octets, Sink, Source};
 
 /// Settings as lines of a transcript.

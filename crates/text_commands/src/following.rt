@@ -8,9 +8,9 @@ ghost use Rattle.text_commands.specs.Tasks.{ClosesWith, EndsBy, EndsCounts};
 ghost use Rattle.text_commands.specs.Transcripts.{FollowsLine, Rule, transcript_task};
 ghost use Rattle.transcript.specs.Positions.{IsReading};
 ghost use Rattle.transcript.specs.Reading.{beginning};
-ghost use Rattle.transcript.specs.Streams.{most_octets};
+ghost use Rattle.text_lines.specs.Streams.{most_octets};
 ghost use Rattle.transcript.specs.Told.{CanFollow, told_by};
-ghost use Rattle.transcript.specs.Words.{lines_of};
+ghost use Rattle.text_lines.specs.Words.{lines_of};
 ghost use Rattle.transcript.specs.declared.line.Line as said;
 
 use crate::work::{Work, run};

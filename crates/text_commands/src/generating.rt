@@ -4,8 +4,8 @@ ghost use Rattle.std.specs.Prelude.{◌≡◌, ◌≢◌, ◌≤◌};
 ghost use Rattle.text_commands.specs.Generated.{GeneratesBy, WriteCounts};
 
 use agent_status::Status;
+use generated_logins::GenerateFault;
 use std::alloc::Global;
-use transcript::GenerateFault;
 use wire_core::Sink;
 
 /// Writes the transcript of so many logins of one client, some of them repeated, and their answers. The seed decides
@@ -17,7 +17,7 @@ pub fn generate<K: Sink>(alloc: Global, count: u32, seed: u32, output: &mut K) -
     ensures ends { GeneratesBy result count seed (K.written output.old) (K.written output.new) }
     ensures counts { WriteCounts result (K.faults output.old) (K.faults output.new) }
 {
-    match transcript::generate(alloc, count, seed, output) {
+    match generated_logins::generate(alloc, count, seed, output) {
         Ok(()) => Status::Done,
         Err(GenerateFault::Write) => Status::WriteFault,
         Err(GenerateFault::NoMemory) => Status::OutOfMemory,

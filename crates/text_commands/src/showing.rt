@@ -2,16 +2,16 @@
 
 ghost use Rattle.std.specs.Prelude.{◌≡◌, ◌≢◌, ◌≤◌, ◌⊎◌, List, ℕ, Ok, Some, None, length, IfOk, IfErr};
 ghost use Rattle.wire_core.specs.Counts.{Rose, one_more};
-ghost use Rattle.transcript.specs.Show.{show_line};
-ghost use Rattle.transcript.specs.Streams.{most_octets};
-ghost use Rattle.transcript.specs.Words.{lines_of};
+ghost use Rattle.printed_lines.specs.Show.{show_line};
+ghost use Rattle.text_lines.specs.Streams.{most_octets};
+ghost use Rattle.text_lines.specs.Words.{lines_of};
 ghost use Rattle.text_commands.specs.Shown.{Shows, ShowsNot, show_task};
 ghost use Rattle.text_commands.specs.Tasks.{EndsBy, EndsCounts};
 
 use crate::work::{Work, run, write_text};
 use agent_status::Status;
+use printed_lines::ShowFault;
 use std::alloc::Global;
-use transcript::ShowFault;
 use wire_core::{Octets, Sink, Source};
 
 /// How many lines were shown. A count stands still at its end.
@@ -32,7 +32,7 @@ fn text_of(alloc: Global, number: u64, line: &[u8]) -> Result<Octets, Status>
     ensures ok { IfOk result (λ text. show_line line.now ≡ Ok text) }
     ensures err { IfErr result (λ status. ShowsNot status number (show_line line.now)) }
 {
-    match transcript::show_line(alloc, line) {
+    match printed_lines::show_line(alloc, line) {
         Ok(text) => Ok(text),
         Err(ShowFault::Bad { reason }) => Err(Status::BadTranscript {
             line: number,

@@ -7,7 +7,7 @@ ghost use Rattle.text_commands.specs.Tasks.{Closes, EndsBy, EndsCounts, Finishes
 
 use agent_status::Status;
 use std::alloc::Global;
-use transcript::{RawFault, RawLine, RawLines};
+use text_lines::{RawFault, RawLine, RawLines};
 use wire_core::{Put, Sink, Source};
 
 /// What a command does with each line of its input.

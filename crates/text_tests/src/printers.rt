@@ -1,13 +1,13 @@
 //! Lines that are printed, shown and generated.
 
 use agent_events::Output;
+use generated_logins::{GenerateFault, Generator, generate};
+use printed_lines::{
+    ShowFault, print, print_control, print_drop, print_end, print_end_with_controls, show_line,
+};
 use radius_packet::Reason;
 use std::alloc::Global;
 use std::test::Fail;
-use transcript::{
-    GenerateFault, Generator, ShowFault, generate, print, print_control, print_drop, print_end,
-    print_end_with_controls, show_line,
-};
 use wire_core::{MemorySink, NoMemory, Octets};
 
 /// Whether this line was made.

@@ -2,7 +2,8 @@
 
 use std::alloc::Global;
 use std::test::Fail;
-use transcript::{Line, LineFault, LineReader, Lines, RawLine, RawLines, number_in};
+use text_lines::{RawLine, RawLines, number_in};
+use transcript::{Line, LineFault, LineReader, Lines};
 use wire_core::{MemorySource, NoMemory};
 
 /// Lines of a transcript, each with how many inputs it ends. The octets of the link are a message in two pieces, two

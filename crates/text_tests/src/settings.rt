@@ -3,9 +3,9 @@
 use crate::printers::is_line;
 use agent_config::{ConfigFault, clients_from, read, read_address};
 use agent_settings::{Client, Clients, Config, is_client_in_limits, is_in_limits};
+use printed_lines::print_settings;
 use std::alloc::Global;
 use std::test::Fail;
-use transcript::print_settings;
 
 /// Settings without a boot, with one client that has further addresses.
 const SETTINGS: &str = "\

@@ -1,7 +1,7 @@
 -- The words of a control line by their places.
 use Rattle.std.proofs.Common.{◌≡◌, ◌≢◌, ℕ, List, [], ◌∷◌, length, None, Bor, slice_index_or, refl, arith}
+use Rattle.text_lines.specs.Views.{plain}
 use Rattle.transcript.specs.Lines.{control_of}
-use Rattle.transcript.specs.Views.{plain}
 
 pub not_five : (ws : List (Bor (List ℕ))) → length ws ≢ 5 → control_of (plain ws) ≡ None
 not_five [] other = refl

@@ -7,14 +7,14 @@ use Rattle.wire_core.specs.Counts.{one_more}
 use Rattle.agent_settings.specs.declared.client.Client.{Client}
 use Rattle.agent_settings.specs.declared.config.Config.{Config}
 use Rattle.agent_events.specs.declared.events.Input.{Input}
-use Rattle.transcript.specs.Generator.{link_line}
+use Rattle.text_lines.specs.Words.{words_of}
+use Rattle.generated_logins.specs.Generator.{link_line}
 use Rattle.transcript.specs.Grammar.{IsHex, IsNumber, SaysWords}
 use Rattle.transcript.specs.Inputs.{inputs_of, link_inputs}
 use Rattle.transcript.specs.Kinds.{kind_of}
 use Rattle.transcript.specs.Lines.{client_of, control_of, event_of, settings_of}
 use Rattle.transcript.specs.Reading.{At, Said, Step, agent_step, client_step, control_step, event_step, kind_step, may_stand, read_from, read_line, said_on, words_step}
 use Rattle.transcript.specs.Told.{after_lines, given_by}
-use Rattle.transcript.specs.Words.{words_of}
 use Rattle.transcript.specs.declared.control.Control.{Control}
 use Rattle.transcript.specs.declared.happening.Happening.{Happening}
 use Rattle.transcript.specs.declared.happening.Happening.TheVariants as happening

@@ -15,10 +15,12 @@ use Rattle.radius_packet.specs.declared.reasons.Via.TheVariants.{Auth}
 use Rattle.diameter_message.specs.Message.{header_text, message_text}
 use Rattle.agent_settings.specs.Config.{are_settings_in_limits, is_client_in_limits}
 use Rattle.agent_events.specs.declared.events.Input.TheVariants as input
+use Rattle.generated_logins.specs.Generating.{logins_from}
+use Rattle.generated_logins.specs.Generator.{answer_line, answer_octets, drain_line, draw, event_line, generated_lines, has_bit, line_of, login_lines, moment, next_draw, opening_lines, repeat_lines, request_line, request_octets}
+use Rattle.generated_logins.proofs.GeneratorLemmas.{logins_from-draw}
+use Rattle.generated_logins.proofs.OctetLemmas.{few-answer, few-request}
 use Rattle.transcript.specs.Grammar.{IsDatagram, IsHappening, IsHex, Lacks}
 use Rattle.transcript.specs.Inputs.{inputs_of}
-use Rattle.transcript.specs.Generating.{logins_from}
-use Rattle.transcript.specs.Generator.{answer_line, answer_octets, drain_line, draw, event_line, generated_lines, has_bit, line_of, login_lines, moment, next_draw, opening_lines, repeat_lines, request_line, request_octets}
 use Rattle.transcript.specs.GeneratorLaws.{GeneratedLinesAreSound}
 use Rattle.transcript.specs.Reading.{At, Step, read_from, read_line, said_on, start}
 use Rattle.transcript.specs.declared.happening.Happening.{Happening}
@@ -26,10 +28,8 @@ use Rattle.transcript.specs.declared.happening.Happening.TheVariants as happenin
 use Rattle.transcript.specs.declared.line.Line.{Line}
 use Rattle.transcript.specs.declared.line.Line.TheVariants as line
 use Rattle.transcript.specs.declared.position.Section.TheVariants.{Events}
-use Rattle.transcript.proofs.GeneratorLemmas.{logins_from-draw}
 use Rattle.transcript.proofs.GrammarJoinLemmas.{address-spelled, any-lacks}
 use Rattle.transcript.proofs.GrammarWordLemmas.{hex-some, number-spelled}
-use Rattle.transcript.proofs.OctetLemmas.{few-answer, few-request}
 use Rattle.transcript.proofs.ReadingLemmas.{event-reads, event_next, hex-behind}
 
 -- ---- event lines

@@ -5,11 +5,12 @@ use Rattle.std.proofs.lemmas.Option.{same_Some}
 use Rattle.std.proofs.lemmas.Slice.Eq.{bytes_eq-Decides}
 use Rattle.agent_config.specs.Values.{address_in}
 use Rattle.agent_events.specs.declared.events.Input.TheVariants as input
+use Rattle.text_lines.specs.Words.{hex_word, number_word}
+use Rattle.text_lines.proofs.WordLemmas.{bind-some}
+use Rattle.printed_lines.specs.Text.{via_name}
 use Rattle.transcript.specs.Grammar.{IsControl, IsEvent, IsHappening}
 use Rattle.transcript.specs.Kinds.{is_control, kind_of, words_behind}
 use Rattle.transcript.specs.Lines.{control_of, event_of, happening_of}
-use Rattle.transcript.specs.Text.{via_name}
-use Rattle.transcript.specs.Words.{hex_word, number_word}
 use Rattle.transcript.specs.declared.control.Control.{Control}
 use Rattle.transcript.specs.declared.happening.Happening.{Happening}
 use Rattle.transcript.specs.declared.happening.Happening.TheVariants as happening
@@ -19,7 +20,6 @@ use Rattle.transcript.specs.declared.kind.Kind.TheVariants as kind
 use Rattle.transcript.proofs.GrammarJoinLemmas.{address-read, address-spelled}
 use Rattle.transcript.proofs.GrammarKindLemmas.{IsEventOf, datagram-kind, name_text}
 use Rattle.transcript.proofs.GrammarWordLemmas.{hex-read, hex-spelled, number-read, number-spelled}
-use Rattle.transcript.proofs.WordLemmas.{bind-some}
 
 -- nothing stands behind the name
 bare-spelled : (name : List ℕ) (behind : List (List ℕ)) (x told : Happening) → length behind ≡ 0 → Some x ≡ Some told

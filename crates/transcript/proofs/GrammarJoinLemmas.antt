@@ -12,9 +12,9 @@ use Rattle.std.proofs.lemmas.List.Splits.{join_with_byte-slice_split, length-sli
 use Rattle.std.proofs.lemmas.Option.{same_Some}
 use Rattle.std.proofs.lemmas.Slice.Eq.{bytes_eq-Decides}
 use Rattle.agent_config.specs.Values.{address_in, alone}
+use Rattle.text_lines.specs.Words.{addresses_of, addresses_word, words_of}
+use Rattle.text_lines.proofs.WordLemmas.{bind-some}
 use Rattle.transcript.specs.Grammar.{IsAddress, IsAddresses, IsLine, Lacks}
-use Rattle.transcript.specs.Words.{addresses_of, addresses_word, words_of}
-use Rattle.transcript.proofs.WordLemmas.{bind-some}
 
 -- ---- pieces with an octet between them
 

@@ -5,8 +5,8 @@ use Rattle.std.proofs.lemmas.Option.{cond_some, same_Some}
 use Rattle.std.proofs.lemmas.Slice.Eq.{bytes_eq-Decides}
 use Rattle.radius_packet.specs.declared.reasons.Via.{Via}
 use Rattle.radius_packet.specs.declared.reasons.Via.TheVariants.{Auth, Acct}
+use Rattle.printed_lines.specs.Text.{via_name}
 use Rattle.transcript.specs.Kinds.{begins_with, event_kind, event_name, is_control, kind_of, named_kind, words_behind}
-use Rattle.transcript.specs.Text.{via_name}
 use Rattle.transcript.specs.declared.kind.EventName.{EventName}
 use Rattle.transcript.specs.declared.kind.EventName.TheVariants.{Datagram, Link, Up, Ready, Down, Tick, Drain, Leave}
 use Rattle.transcript.specs.declared.kind.Kind.{Kind}

@@ -5,11 +5,11 @@ use Rattle.std.proofs.lemmas.Bool.{cond-false, cond-true, le-ltb, lt-ltb, ltb-fa
 use Rattle.std.proofs.lemmas.List.Folds.{list_any_none}
 use Rattle.agent_settings.specs.declared.client.Client.{Client}
 use Rattle.agent_settings.specs.declared.config.Config.{Config}
+use Rattle.text_lines.specs.Words.{words_of}
 use Rattle.transcript.specs.Grammar.{IsAgent, IsClient, IsControl, IsEvent, LinesHaveAGrammar, Says, SaysAgent, SaysClient, SaysControl, SaysEvent, SaysWords}
 use Rattle.transcript.specs.Kinds.{kind_of}
 use Rattle.transcript.specs.Lines.{client_of, control_of, event_of, settings_of}
 use Rattle.transcript.specs.Reading.{At, Step, agent_step, client_step, control_step, event_step, kind_step, may_stand, read_line, words_step}
-use Rattle.transcript.specs.Words.{words_of}
 use Rattle.transcript.specs.declared.control.Control.{Control}
 use Rattle.transcript.specs.declared.happening.Happening.{Happening}
 use Rattle.transcript.specs.declared.kind.EventName.{EventName}

@@ -8,14 +8,14 @@ use Rattle.agent_settings.specs.declared.config.Config.{Config}
 use Rattle.agent_settings.specs.Config.{are_settings_in_limits, is_client_in_limits}
 use Rattle.agent_config.specs.Values.{address_in}
 use Rattle.agent_settings.proofs.Limits.{in_limits-new}
+use Rattle.text_lines.specs.Words.{addresses_word, choice_word, hex_word, number_word}
+use Rattle.text_lines.proofs.WordLemmas.{bind-some}
 use Rattle.transcript.specs.Grammar.{IsAgent, IsClient, IsPatience}
 use Rattle.transcript.specs.Kinds.{begins_with, kind_of}
 use Rattle.transcript.specs.Lines.{client_of, first_of, in_limits, patience_of, settings_of}
-use Rattle.transcript.specs.Words.{addresses_word, choice_word, hex_word, number_word}
 use Rattle.transcript.specs.declared.kind.Kind.TheVariants as kind
 use Rattle.transcript.proofs.GrammarJoinLemmas.{address-read, address-spelled, addresses-read, addresses-spelled}
 use Rattle.transcript.proofs.GrammarWordLemmas.{choice-read, choice-spelled, hex-read, hex-spelled, number-read, number-spelled}
-use Rattle.transcript.proofs.WordLemmas.{bind-some}
 
 -- ---- the agent line
 

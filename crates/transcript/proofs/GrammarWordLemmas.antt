@@ -16,10 +16,10 @@ use Rattle.hex.specs.Hex.{decode_of, decode_pairs, digit_or_error, encode_lower,
 use Rattle.hex.specs.declared.error.FromHexError.{FromHexError}
 use Rattle.hex.proofs.HexLemmas.{decode_of-even, decode_of-ok, decode_pairs-ok, length-encode_with}
 use Rattle.hex.proofs.Pairs.{cons_byte, decode_pairs-ok_pair}
+use Rattle.text_lines.specs.Words.{choice_word, hex_word, is_numeral, number_word}
+use Rattle.text_lines.proofs.WordLemmas.{number_word-decimal, numeral-parts, numerals}
 use Rattle.transcript.specs.Grammar.{IsChoice, IsHex, IsNumber, Lacks}
-use Rattle.transcript.specs.Words.{choice_word, hex_word, is_numeral, number_word}
 use Rattle.transcript.proofs.GrammarJoinLemmas.{any-lacks}
-use Rattle.transcript.proofs.WordLemmas.{number_word-decimal, numeral-parts, numerals}
 
 -- ---- numbers
 

@@ -4,8 +4,6 @@ pub mod CutStreams
 pub mod Examples
 pub mod FollowLemmas
 pub mod GeneratedLemmas
-pub mod GeneratorExamples
-pub mod GeneratorLemmas
 pub mod GrammarEventLemmas
 pub mod GrammarExamples
 pub mod GrammarJoinLemmas
@@ -14,14 +12,6 @@ pub mod GrammarLemmas
 pub mod GrammarLineLemmas
 pub mod GrammarWordLemmas
 pub mod InputLemmas
-pub mod LineLemmas
-pub mod LoginLemmas
-pub mod OctetLemmas
-pub mod PrintLemmas
 pub mod ReadingLemmas
 pub mod SettingsLemmas
-pub mod SettingsTextLemmas
-pub mod ShowExamples
-pub mod StreamLemmas
 pub mod TakingLemmas
-pub mod WordLemmas

@@ -4,7 +4,7 @@ use Rattle.std.specs.List.{list_any}
 use Rattle.std.proofs.lemmas.Bool.{or_parts}
 use Rattle.std.proofs.lemmas.List.Elements.{All-cons, All-nil, All-same}
 use Rattle.wire_core.specs.Counts.{one_more}
-use Rattle.transcript.specs.Generator.{line_of}
+use Rattle.generated_logins.specs.Generator.{line_of}
 use Rattle.transcript.specs.Grammar.{IsHappening, IsHex, IsLine, IsNumber, Lacks}
 use Rattle.transcript.specs.Inputs.{inputs_of, stream_after}
 use Rattle.transcript.specs.Reading.{At, read_line}

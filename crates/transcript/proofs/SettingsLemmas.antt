@@ -1,7 +1,7 @@
 -- The words of an agent line and of a client line by their places.
 use Rattle.std.proofs.Common.{◌≡◌, ◌≢◌, ℕ, ◌<◌, ◌≤◌, List, [], ◌∷◌, length, drop, None, Bor, slice_index_or, refl, arith}
+use Rattle.text_lines.specs.Views.{plain}
 use Rattle.transcript.specs.Lines.{client_by, client_of, first_of, settings_by, settings_of}
-use Rattle.transcript.specs.Views.{plain}
 
 pub too_few : (ws : List (Bor (List ℕ))) → length ws < 10 → settings_of (plain ws) ≡ None
 too_few [] few = refl

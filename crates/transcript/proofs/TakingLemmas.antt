@@ -4,20 +4,20 @@ use Rattle.std.proofs.lemmas.List.{append-nil, length-append}
 use Rattle.wire_core.specs.Counts.{Counts}
 use Rattle.wire_core.specs.Source.{Consumes}
 use Rattle.wire_core.proofs.SourceLaws.{Consumes-append, Consumes-end, Consumes-told}
+use Rattle.text_lines.specs.Streams.{Cutting, IsUnended, TakesNone, rest_of}
+use Rattle.text_lines.specs.Words.{lines_of}
+use Rattle.text_lines.specs.declared.raw_lines.RawFault.{RawFault}
+use Rattle.text_lines.specs.declared.raw_lines.RawFault.TheVariants as raw
+use Rattle.text_lines.proofs.LineLemmas.{lines-cut, lines-front, lines-last}
+use Rattle.text_lines.proofs.StreamLemmas.{Consumes-held}
 use Rattle.transcript.specs.Positions.{TakesBad, TakesSome, TakesStep, TooLong}
 use Rattle.transcript.specs.Reading.{At, Step, read_line}
-use Rattle.transcript.specs.Streams.{Cutting, IsUnended, TakesNone, rest_of}
 use Rattle.transcript.specs.Taking.{Answers, IsEnding, IsOfLine, ReadsNone}
-use Rattle.transcript.specs.Words.{lines_of}
 use Rattle.transcript.specs.declared.line.Line.{Line}
 use Rattle.transcript.specs.declared.line_fault.LineFault.{LineFault}
 use Rattle.transcript.specs.declared.line_fault.LineFault.TheVariants as fault
 use Rattle.transcript.specs.declared.position.Position.{Position}
-use Rattle.transcript.specs.declared.raw_lines.RawFault.{RawFault}
-use Rattle.transcript.specs.declared.raw_lines.RawFault.TheVariants as raw
 use Rattle.transcript.specs.declared.reader.LineReader.{LineReader}
-use Rattle.transcript.proofs.LineLemmas.{lines-cut, lines-front, lines-last}
-use Rattle.transcript.proofs.StreamLemmas.{Consumes-held}
 
 -- the line that was taken is the first of what was to come
 line-opens : (ended : Bool) {before now : Option (List ℕ)} (octets ending : List ℕ)

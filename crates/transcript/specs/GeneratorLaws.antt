@@ -1,6 +1,6 @@
 -- What holds of every generated transcript.
 use Rattle.std.specs.Prelude.{◌≡◌, ℕ, ◌≤◌, None}
-use Rattle.transcript.specs.Generator.{generated_lines}
+use Rattle.generated_logins.specs.Generator.{generated_lines}
 use Rattle.transcript.specs.Reading.{read_from, start}
 
 -- no line of it is bad

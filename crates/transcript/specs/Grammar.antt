@@ -12,7 +12,7 @@ use Rattle.agent_settings.specs.declared.config.Config.{Config}
 use Rattle.agent_settings.specs.Config.{ClientInLimits, InLimits}
 use Rattle.agent_events.specs.declared.events.Input.{Input}
 use Rattle.agent_events.specs.declared.events.Input.TheVariants as input
-use Rattle.transcript.specs.Text.{via_name}
+use Rattle.printed_lines.specs.Text.{via_name}
 use Rattle.transcript.specs.Inputs.{inputs_of, stream_after}
 use Rattle.transcript.specs.Reading.{At, read_line}
 use Rattle.transcript.specs.declared.control.Control.{Control}

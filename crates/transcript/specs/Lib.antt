@@ -1,5 +1,3 @@
-pub mod Generating
-pub mod Generator
 pub mod GeneratorLaws
 pub mod Grammar
 pub mod Inputs
@@ -7,12 +5,6 @@ pub mod Kinds
 pub mod Lines
 pub mod Positions
 pub mod Reading
-pub mod Reads
-pub mod SettingsText
-pub mod Show
-pub mod Streams
 pub mod Taking
-pub mod Text
 pub mod Told
 pub mod Views
-pub mod Words

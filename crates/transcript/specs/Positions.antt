@@ -3,6 +3,8 @@ use Rattle.std.specs.Prelude.{◌≡◌, ℕ, ◌<◌, List, length, Option, Som
 use Rattle.wire_core.specs.Counts.{one_more}
 use Rattle.wire_core.specs.declared.memory.NoMemory.{NoMemory}
 use Rattle.agent_events.specs.declared.events.Input.{Input}
+use Rattle.text_lines.specs.declared.word_fault.WordFault.{WordFault}
+use Rattle.text_lines.specs.declared.word_fault.WordFault.TheVariants as word
 use Rattle.transcript.specs.Inputs.{HasCut, inputs_of, stream_after}
 use Rattle.transcript.specs.Reading.{At, Step, read_line}
 use Rattle.transcript.specs.declared.happening.Happening.{Happening}
@@ -11,8 +13,6 @@ use Rattle.transcript.specs.declared.line_fault.LineFault.{LineFault}
 use Rattle.transcript.specs.declared.line_fault.LineFault.TheVariants as fault
 use Rattle.transcript.specs.declared.position.Position.{Position}
 use Rattle.transcript.specs.declared.reader.LineReader.{LineReader}
-use Rattle.transcript.specs.declared.word_fault.WordFault.{WordFault}
-use Rattle.transcript.specs.declared.word_fault.WordFault.TheVariants as word
 
 abbrev pub fault_at : ℕ → ℕ → LineFault
 fault_at number reason = fault.Bad number reason

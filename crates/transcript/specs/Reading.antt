@@ -4,7 +4,8 @@ use Rattle.std.specs.List.{list_any}
 use Rattle.wire_core.specs.Counts.{one_more}
 use Rattle.agent_settings.specs.declared.client.Client.{Client}
 use Rattle.agent_settings.specs.declared.config.Config.{Config}
-use Rattle.transcript.specs.Words.{lines_of, words_of}
+use Rattle.text_lines.specs.Stops.{Bad}
+use Rattle.text_lines.specs.Words.{lines_of, words_of}
 use Rattle.transcript.specs.Kinds.{kind_of}
 use Rattle.transcript.specs.Lines.{settings_of, client_of, event_of, control_of}
 use Rattle.transcript.specs.Inputs.{inputs_of, stream_after}
@@ -107,11 +108,6 @@ read_line at octets =
     if nat_lt 140000 (length octets) then Err 1 else words_step at (kind_of (words_of octets)) (words_of octets)
 
 -- ---- whole texts
-
--- the first bad line of a text, by its number, and the reason
-pub record Bad : Type 0 where
-  pub line : ℕ
-  pub reason : ℕ
 
 -- what lines say, up to the first bad one
 pub record Said : Type 0 where

@@ -1,15 +1,15 @@
 -- What is taken of a source for the next line of a transcript.
 use Rattle.std.specs.Prelude.{◌≡◌, ℕ, ◌+◌, ◌<◌, Bool, true, false, List, [], ◌∷◌, ◌++◌, length, Option, Some, None, Result, Ok, Err}
 use Rattle.wire_core.specs.Source.{Consumes, IsAtEnd}
+use Rattle.text_lines.specs.Streams.{Cutting, IsUnended, most_octets}
+use Rattle.text_lines.specs.Words.{lines_of}
+use Rattle.text_lines.specs.declared.raw_lines.RawFault.{RawFault}
+use Rattle.text_lines.specs.declared.raw_lines.RawFault.TheVariants as raw
 use Rattle.transcript.specs.Positions.{IsReading, TakesBad, TakesLine, TooLong}
 use Rattle.transcript.specs.Reading.{At, read_line}
-use Rattle.transcript.specs.Streams.{Cutting, IsUnended, most_octets}
-use Rattle.transcript.specs.Words.{lines_of}
 use Rattle.transcript.specs.declared.line.Line.{Line}
 use Rattle.transcript.specs.declared.line_fault.LineFault.{LineFault}
 use Rattle.transcript.specs.declared.line_fault.LineFault.TheVariants as fault
-use Rattle.transcript.specs.declared.raw_lines.RawFault.{RawFault}
-use Rattle.transcript.specs.declared.raw_lines.RawFault.TheVariants as raw
 use Rattle.transcript.specs.declared.reader.LineReader.{LineReader}
 
 -- after a line the octet 0a was passed, or the source ended

@@ -1,16 +1,11 @@
--- What is borrowed, without where it lies in memory.
-use Rattle.std.specs.Prelude.{ℕ, List, map, Option}
-use Rattle.std.specs.Borrow.{Bor}
+-- Internal: What borrowed words tell, without where they lie in memory.
+use Rattle.std.specs.Prelude.{Option}
 use Rattle.std.specs.Option.{option_copied}
 use Rattle.agent_settings.specs.declared.client.Client.{Client}
 use Rattle.agent_settings.specs.declared.config.Config.{Config}
 use Rattle.transcript.specs.Lines.{client_by, settings_by}
 use Rattle.transcript.specs.declared.settings.AgentWords.{AgentWords}
 use Rattle.transcript.specs.declared.settings.ClientWords.{ClientWords}
-
--- the octets of each word
-abbrev pub plain : List (Bor (List ℕ)) → List (List ℕ)
-plain words = map (λ w. w.now) words
 
 abbrev pub settings_told : AgentWords → Option Config
 settings_told w =

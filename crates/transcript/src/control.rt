@@ -1,13 +1,13 @@
 //! What a control line tells.
 
 ghost use Rattle.std.specs.Prelude.{[], ◌∷◌};
+ghost use Rattle.text_lines.specs.Reads.{Reads};
+ghost use Rattle.text_lines.specs.Views.{plain};
 ghost use Rattle.transcript.specs.Lines as lines;
-ghost use Rattle.transcript.specs.Reads.{Reads};
-ghost use Rattle.transcript.specs.Views.{plain};
 
-use crate::word_fault::WordFault;
-use crate::words::{read_address, read_hex, read_number, read_u16};
 use std::alloc::Global;
+use text_lines::WordFault;
+use text_lines::words::{read_address, read_hex, read_number, read_u16};
 use wire_core::Octets;
 
 /// What a control line tells: a packet that came at a moment, in milliseconds, and where it came from.

@@ -1,16 +1,16 @@
 //! What an event line tells.
 
 ghost use Rattle.std.specs.Prelude.{◌≡◌};
+ghost use Rattle.text_lines.specs.Reads.{Reads};
+ghost use Rattle.text_lines.specs.Views.{plain};
 ghost use Rattle.transcript.specs.Lines as lines;
-ghost use Rattle.transcript.specs.Reads.{Reads};
-ghost use Rattle.transcript.specs.Views.{plain};
 
 use crate::kind::EventName;
-use crate::word_fault::WordFault;
-use crate::words::{read_address, read_hex, read_number, read_u16};
 use agent_events::Input;
 use radius_packet::Via;
 use std::alloc::Global;
+use text_lines::WordFault;
+use text_lines::words::{read_address, read_hex, read_number, read_u16};
 use wire_core::Octets;
 
 /// What an event line tells by itself.

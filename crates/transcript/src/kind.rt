@@ -2,8 +2,8 @@
 
 ghost use Rattle.std.specs.Prelude.{◌≡◌};
 ghost use Rattle.std.specs.Str.{bytes_eq};
+ghost use Rattle.text_lines.specs.Views.{plain};
 ghost use Rattle.transcript.specs.Kinds as kinds;
-ghost use Rattle.transcript.specs.Views.{plain};
 
 use radius_packet::Via;
 

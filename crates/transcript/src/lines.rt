@@ -2,18 +2,18 @@
 
 ghost use Rattle.std.specs.Prelude.{◌≡◌, [], Ok, Err, Some, None, IfOk, IfErr, true, false};
 ghost use Rattle.wire_core.specs.Counts.{Counts};
+ghost use Rattle.text_lines.specs.Streams.{rest_of};
 ghost use Rattle.transcript.specs.Positions.{IsReading};
 ghost use Rattle.transcript.specs.Reading.{At, start, start_with_control};
-ghost use Rattle.transcript.specs.Streams.{rest_of};
 ghost use Rattle.transcript.specs.Taking.{Answers, IsOfLine};
 ghost use Rattle.transcript.specs.declared.line_fault.LineFault.{LineFault};
 ghost use Rattle.transcript.specs.declared.line_fault.LineFault.TheVariants.{Read};
 
 use crate::line::Line;
 use crate::line_fault::LineFault;
-use crate::raw_lines::{RawFault, RawLine, RawLines};
 use crate::reader::LineReader;
 use std::alloc::Global;
+use text_lines::{RawFault, RawLine, RawLines};
 use wire_core::{NoMemory, Source};
 
 /// The lines of a transcript, read from a source as they are asked for. Contracts see the source, what is held of it,

@@ -2,13 +2,13 @@
 
 ghost use Rattle.std.specs.Prelude.{◌≡◌, ◌++◌, ◌∷◌, [], length, OnOk};
 ghost use Rattle.wire_core.specs.Counts.{one_more};
+ghost use Rattle.text_lines.specs.Views.{plain};
+ghost use Rattle.text_lines.specs.Words as word;
 ghost use Rattle.transcript.specs.Kinds.{kind_of as kind_of_words};
 ghost use Rattle.transcript.specs.Lines as lines;
 ghost use Rattle.transcript.specs.Reading as reading;
 ghost use Rattle.transcript.specs.Reading.{At};
 ghost use Rattle.transcript.specs.Positions.{StandsAt, TakesStep, TellsInputs, fault_at, fault_of};
-ghost use Rattle.transcript.specs.Views.{plain};
-ghost use Rattle.transcript.specs.Words as word;
 
 use crate::control::{Control, read_control};
 use crate::happening::{Happening, read_event};
@@ -17,10 +17,10 @@ use crate::line::{Inputs, Line};
 use crate::line_fault::LineFault;
 use crate::link_stream::LinkStream;
 use crate::settings::{read_client, read_settings};
-use crate::word_fault::WordFault;
-use crate::words::words_of;
 use agent_events::Input;
 use std::alloc::Global;
+use text_lines::WordFault;
+use text_lines::words::words_of;
 use wire_core::NoMemory;
 
 /// How many client lines there are at most.

@@ -2,14 +2,17 @@
 
 ghost use Rattle.std.specs.Prelude.{◌≡◌, None, Some, [], IfOk, IfErr, IfSome, IfNone};
 ghost use Rattle.std.specs.Option.{option_copied};
+ghost use Rattle.text_lines.specs.Reads.{Fails, Reads};
+ghost use Rattle.text_lines.specs.Views.{plain};
 ghost use Rattle.transcript.specs.Lines as lines;
-ghost use Rattle.transcript.specs.Reads.{Fails, Reads};
-ghost use Rattle.transcript.specs.Views.{client_told, plain, settings_told};
+ghost use Rattle.transcript.specs.Views.{client_told, settings_told};
 
-use crate::word_fault::WordFault;
-use crate::words::{read_address, read_addresses, read_choice, read_hex, read_number, read_u32};
 use agent_settings::{AddressList, Client, Clients, Config, is_client_in_limits, is_in_limits};
 use std::alloc::Global;
+use text_lines::WordFault;
+use text_lines::words::{
+    read_address, read_addresses, read_choice, read_hex, read_number, read_u32,
+};
 use wire_core::{NoMemory, Octets};
 
 /// The words after `agent`.

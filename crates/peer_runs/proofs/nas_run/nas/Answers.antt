@@ -1,6 +1,6 @@
 use Rattle.std.proofs.Common.{◌≡◌, true, Ok, sym, ◌∙◌, subst, arith, rules}
-use Rattle.transcript.specs.Streams.{SourceEnded}
-use Rattle.transcript.specs.declared.raw_lines.RawLine.TheVariants.{Line, LastLine, End}
+use Rattle.text_lines.specs.Streams.{SourceEnded}
+use Rattle.text_lines.specs.declared.raw_lines.RawLine.TheVariants.{Line, LastLine, End}
 use Rattle.peer_runs.proofs.NasRunLemmas.{completes, ends-end, ends-last-line, ends-none, ends-undone, ends-untaken, runs-first, runs-line}
 use Rattle.peer_runs.proofs.nas_run.nas.Goals as goal
 

@@ -1,5 +1,5 @@
 use Rattle.std.proofs.Common.{◌≡◌, ◌-◌, ◌<◌, ◌≤◌}
-use Rattle.transcript.specs.Streams.{most_octets}
+use Rattle.text_lines.specs.Streams.{most_octets}
 use Rattle.peer_runs.proofs.NasRunLemmas.{RunsOn}
 use Rattle.peer_runs.proofs.nas_run.nas.Given as goal
 

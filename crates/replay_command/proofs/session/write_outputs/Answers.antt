@@ -5,7 +5,7 @@ use Rattle.std.proofs.lemmas.List.{take_all}
 use Rattle.std.proofs.lemmas.Option.{slice_get_read}
 use Rattle.wire_core.specs.Sink.{Appends, AppendsPrefix}
 use Rattle.wire_core.proofs.SinkLaws.{AppendsPrefix-append, AppendsPrefix-front, AppendsPrefix-whole}
-use Rattle.transcript.specs.Text.{output_line}
+use Rattle.printed_lines.specs.Text.{output_line}
 use Rattle.text_commands.proofs.OutputLemmas.{lines-cut}
 use Rattle.replay_command.proofs.session.write_outputs.Goals as goal
 

@@ -1,7 +1,7 @@
 use Rattle.std.proofs.Common.{◌≤◌, take}
 use Rattle.std.specs.List.{flat_map}
 use Rattle.wire_core.specs.Sink.{Appends}
-use Rattle.transcript.specs.Text.{output_line}
+use Rattle.printed_lines.specs.Text.{output_line}
 use Rattle.replay_command.proofs.session.write_outputs.Given as goal
 
 -- the lines of the outputs so far were written

@@ -1,6 +1,6 @@
 use Rattle.std.proofs.Common.{◌++◌, ◌∷◌, [], ap, ◌∙◌, append_assoc}
-use Rattle.transcript.specs.Text.{hex_text}
-use Rattle.transcript.proofs.PrintLemmas.{IfOk-line}
+use Rattle.printed_lines.specs.Text.{hex_text}
+use Rattle.printed_lines.proofs.PrintLemmas.{IfOk-line}
 use Rattle.reverse_script.proofs.printing.answer_line.Goals as goal
 
 pub returns : goal.returns

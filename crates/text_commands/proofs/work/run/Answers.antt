@@ -2,7 +2,7 @@ use Rattle.std.proofs.Common.{Err, ap, subst, ◌∙◌}
 use Rattle.wire_core.specs.Counts.{one_more}
 use Rattle.wire_core.proofs.CountLaws.{Rose-one_more}
 use Rattle.text_commands.proofs.TaskLemmas.{Goes, ends-close, ends-fault, ends-last, ends-line, nothing-done, status-begun, status-counts}
-use Rattle.transcript.specs.Streams.{rest_of}
+use Rattle.text_lines.specs.Streams.{rest_of}
 use Rattle.text_commands.proofs.work.run.Goals as goal
 
 pub returns-in_default-clause-ends : goal.returns-in_default-clause-ends

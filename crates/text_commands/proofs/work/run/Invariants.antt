@@ -1,6 +1,6 @@
 use Rattle.std.proofs.Common.{◌≡◌, ◌-◌, ◌≤◌}
 use Rattle.text_commands.proofs.TaskLemmas.{Goes}
-use Rattle.transcript.specs.Streams.{most_octets}
+use Rattle.text_lines.specs.Streams.{most_octets}
 use Rattle.text_commands.proofs.work.run.Given as goal
 
 abbrev pub invariant-loop-work : goal.invariant-loop-work

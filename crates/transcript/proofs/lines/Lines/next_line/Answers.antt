@@ -1,7 +1,7 @@
 use Rattle.std.proofs.Common.{[], ◌∷◌, List, ℕ, false, true, length, refl, sym, ap, subst, arith}
 use Rattle.std.proofs.lemmas.List.{append-nil, length-append}
 use Rattle.wire_core.specs.Source.{Consumes}
-use Rattle.transcript.specs.Streams.{rest_of}
+use Rattle.text_lines.specs.Streams.{rest_of}
 use Rattle.transcript.proofs.TakingLemmas.{line-answers, raw-none}
 use Rattle.transcript.proofs.lines.Lines.next_line.Goals as goal
 

@@ -1,0 +1,4 @@
+pub mod GeneratorExamples
+pub mod GeneratorLemmas
+pub mod LoginLemmas
+pub mod OctetLemmas

@@ -1,0 +1,4 @@
+pub mod PrintExamples
+pub mod PrintLemmas
+pub mod SettingsTextLemmas
+pub mod ShowExamples

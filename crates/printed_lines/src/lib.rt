@@ -1,0 +1,12 @@
+//! What is printed: the lines of outputs, of settings, and of packets and messages that are shown (profile).
+#![tactic(auto)]
+
+mod printing;
+mod settings_printing;
+mod showing;
+
+pub use printing::{
+    print, print_control, print_drop, print_end, print_end_with_controls, push_digits, with_hex,
+};
+pub use settings_printing::print_settings;
+pub use showing::{ShowFault, show_line};

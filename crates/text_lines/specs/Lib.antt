@@ -1,0 +1,5 @@
+pub mod Reads
+pub mod Stops
+pub mod Streams
+pub mod Views
+pub mod Words

@@ -1,9 +1,0 @@
-use Rattle.std.proofs.Common.{◌++◌, ◌∷◌, [], ap, ◌∙◌, append_assoc}
-use Rattle.transcript.specs.Text.{hex_text}
-use Rattle.transcript.proofs.PrintLemmas.{IfOk-line}
-use Rattle.transcript.proofs.printing.send_line.Goals as goal
-
-pub returns : goal.returns
-returns c =
-    IfOk-line c.with_hex.result _ c.args.octets.now _ c.with_hex.ensures
-    (ap (λ start. start ++ hex_text c.args.octets.now ++ 10 ∷ []) c.in_ok-format.ensures.ok ∙ simp append_assoc)
