@@ -11,6 +11,7 @@ use agent_server::{Finish, Pair, Trail, World};
 use agent_status::Status;
 pub use command_line::{Places, places};
 use command_line::{Command, TextCommand, command_of};
+use replay_command::wanted_in_transcript;
 use std::alloc::Global;
 use std::hash::RandomState;
 use std::net::{Ipv4Addr, Net, TcpListener, TcpStream};
@@ -97,17 +98,15 @@ fn lines_wanted(command: TextCommand, line: u64) -> &'static str {
         TextCommand::Show => "expected 'radius HEX' or 'diameter HEX'",
         TextCommand::Reverse if line == 1 => "expected a reverse line",
         TextCommand::Reverse => "expected a request, reply or tick line",
-        _ if line == 1 => "expected an agent line",
-        TextCommand::Dynamic =>
+        TextCommand::Dynamic if line > 1 =>
             "expected an event or control line, or a client line before all events",
-        _ => "expected an event line, or a client line before all events",
+        _ => wanted_in_transcript(line, 2),
     }
 }
 
 /// What was wanted in place of a bad line of the command's input.
 fn wanted(command: Option<Command>, line: u64, reason: u32) -> &'static str {
     match (reason, command) {
-        (1, _) => "expected at most 140000 octets",
         (
             2,
             Some(
@@ -128,8 +127,7 @@ fn wanted(command: Option<Command>, line: u64, reason: u32) -> &'static str {
                 },
             ),
         ) => "it is no RADIUS packet in HEX",
-        (3, _) => "a word isn't of its kind or not within its limits",
-        _ => "another client has this address",
+        _ => wanted_in_transcript(line, reason),
     }
 }
 

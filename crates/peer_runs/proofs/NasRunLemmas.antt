@@ -195,10 +195,10 @@ module _ {place : Place} {patience count : ℕ} {input left output output' clock
   ends-untaken fault status new then takes is =
       subst (λ status. NasEnds status place patience input then output output' clock clock' s t) (sym is) (by fault takes)
     where
-      long : (lines : List (List ℕ)) (octets : List ℕ) → Took r.clients count lines → 140000 < length octets
+      long : (lines : List (List ℕ)) (octets : List ℕ) → Took r.clients count lines → 140100 < length octets
           → (nas_task patience r.clients).stop (lines ++ octets ∷ []) ≡ Some (record { line = one_more count; reason = 1 })
       long lines octets took over =
-          bad-line patience r.clients lines octets 1 took.all (too-long octets over)
+          bad-line patience r.clients lines octets 1 took.all (too-long octets (omega (arith, over)))
           ∙ ap (λ n. Some (record { line = one_more n; reason = 1 })) (sym took.counted)
 
       taken : (fault : RawFault) (status : Status) → TakesNone fault (rest_of old left) then old new → StatusOf fault (Took r.clients count) (nas_task patience r.clients) status

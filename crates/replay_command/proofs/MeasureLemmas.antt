@@ -8,8 +8,8 @@ use Rattle.text_commands.specs.declared.following.TranscriptWork.{TranscriptWork
 use Rattle.replay_command.specs.declared.session.Session.{Session}
 use Rattle.agent_status.specs.declared.status.Status.{Status}
 use Rattle.agent_status.specs.declared.status.Status.TheVariants.{Done, Usage, BadConfig, BadTranscript, ReadFault, WriteFault, OutOfMemory, TooLong, LinkFault, PeerRefused, NoThread, DatagramFault, LinkEnded}
-use Rattle.replay_command.specs.Measured.{Replays, ReplaysOn}
-use Rattle.replay_command.specs.Replay.{replay_rule, replay_task}
+use Rattle.replay_command.specs.Measured.{ReplaysOn}
+use Rattle.replay_command.specs.Replay.{Replays, replay_rule, replay_task}
 use Rattle.text_commands.specs.Tasks.{WorksNot}
 
 pub on-first : (work : TranscriptWork Session) (lines : List (List ℕ)) → Replays work [] → ReplaysOn work lines lines

@@ -1,4 +1,4 @@
--- Internal: what a replay knows of the lines so far.
+-- What a replay knows of the lines so far.
 use Rattle.std.specs.Prelude.{◌≡◌, ℕ, ◌+◌, ◌-◌, ◌^◌, List, [], ◌∷◌, min, count_by, Option, Some, None}
 use Rattle.std.specs.List.{flat_map}
 use Rattle.wire_core.specs.Sink.{Appends}

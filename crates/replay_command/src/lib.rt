@@ -5,7 +5,9 @@ mod laws;
 mod measuring;
 mod replaying;
 mod session;
+mod wanted;
 
 pub use laws::link_lines_can_be_cut;
 pub use measuring::measure;
-pub use replaying::replay;
+pub use replaying::{Replaying, replay, start_replay};
+pub use wanted::wanted_in_transcript;

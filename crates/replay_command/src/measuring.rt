@@ -2,29 +2,25 @@
 
 ghost use Rattle.std.specs.Prelude.{◌≡◌, ◌≢◌, ◌≤◌, [], None, IfErr, OnOk};
 ghost use Rattle.text_commands.specs.Generated.{WriteCounts};
-ghost use Rattle.replay_command.specs.Measured.{MeasuresBy, Replays};
-ghost use Rattle.replay_command.specs.Replay.{replay_task};
+ghost use Rattle.replay_command.specs.Measured.{MeasuresBy};
+ghost use Rattle.replay_command.specs.Replay.{Replays, replay_task};
 
-use crate::session::Session;
+use crate::replaying::{Replaying, start_replay};
 use agent_status::Status;
 use generated_logins::Generator;
 use std::alloc::Global;
 use std::hash::RandomState;
-use text_commands::{TranscriptWork, Work};
+use text_commands::Work;
 use wire_core::{Sink, SteadySink};
 
 /// Replays all lines that are still to come, and keeps nothing of what they print.
-fn replay_all(
-    alloc: Global,
-    work: &mut TranscriptWork<Session>,
-    lines: &mut Generator,
-) -> Result<(), Status>
+fn replay_all(alloc: Global, work: &mut Replaying, lines: &mut Generator) -> Result<(), Status>
     requires first { Replays work.old [] }
     requires sound { replay_task.stop lines.old ≡ None }
     ensures replays { OnOk result (Replays work.new lines.old) }
     ensures memory { IfErr result (λ status. status ≡ Status.OutOfMemory) }
 {
-    TranscriptWork::<Session>::is_task();
+    work.is_task();
     let Ok(mut nowhere) = SteadySink::new(alloc, 0) else {
         return Err(Status::OutOfMemory);
     };
@@ -56,7 +52,7 @@ pub fn measure<K: Sink>(
     ensures counts { WriteCounts result (K.faults output.old) (K.faults output.new) }
 {
     transcript::generated_lines_are_sound();
-    let Ok(mut work) = TranscriptWork::new(alloc, Session::new(random)) else {
+    let Ok(mut work) = start_replay(alloc, random) else {
         return Status::OutOfMemory;
     };
     match replay_all(alloc, &mut work, &mut Generator::new(alloc, count, seed)) {

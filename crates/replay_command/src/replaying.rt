@@ -1,8 +1,8 @@
-//! The command `replay`.
+//! The command `replay`, and a replay line by line.
 
-ghost use Rattle.std.specs.Prelude.{◌≡◌, ◌≢◌, ◌≤◌, ◌⊎◌, List, ℕ, Some, None, length};
+ghost use Rattle.std.specs.Prelude.{◌≡◌, ◌≢◌, ◌≤◌, ◌⊎◌, List, [], ℕ, Some, None, IfOk, length};
 ghost use Rattle.wire_core.specs.Counts.{Rose};
-ghost use Rattle.replay_command.specs.Replay.{replay_task};
+ghost use Rattle.replay_command.specs.Replay.{Replays, replay_task};
 ghost use Rattle.text_commands.specs.Tasks.{EndsBy, EndsCounts};
 ghost use Rattle.text_lines.specs.Streams.{most_octets};
 ghost use Rattle.text_lines.specs.Words.{lines_of};
@@ -11,8 +11,18 @@ use crate::session::Session;
 use agent_status::Status;
 use std::alloc::Global;
 use std::hash::RandomState;
-use text_commands::follow_transcript;
-use wire_core::{Sink, Source};
+use text_commands::{TranscriptWork, follow_transcript};
+use wire_core::{NoMemory, Sink, Source};
+
+/// A replay that is given the lines one by one.
+pub type Replaying = TranscriptWork<Session>;
+
+/// A replay before the first line. `random` is for a table that hashes its keys.
+pub fn start_replay(alloc: Global, random: RandomState) -> Result<Replaying, NoMemory>
+    ensures { IfOk result (λ replaying. Replays replaying []) }
+{
+    TranscriptWork::new(alloc, Session::new(random))
+}
 
 /// Reads a transcript from the input, and prints what the agent sends for each of its events and the end line.
 /// Each line's outputs are written before the next line is read. `random` is for a table that hashes its keys.

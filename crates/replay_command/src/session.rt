@@ -37,7 +37,7 @@ pub(crate) struct Counts {
 
 /// What the lines so far made of the agent: settings, and a core once an event came.
 #[derive(Drop)]
-pub(crate) struct Session {
+pub struct Session {
     random: RandomState,
     config: Option<Config>,
     core: Option<Core>,

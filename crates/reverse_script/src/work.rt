@@ -158,7 +158,7 @@ fn number_after(lines: u64) -> u64
 }
 
 impl Work for ReverseWork {
-    ghost task = { reverse_task };
+    ghost task = { λ _. reverse_task };
 
     ghost took = { Took };
 
@@ -177,7 +177,7 @@ impl Work for ReverseWork {
         }
     }
 
-    fn close<K: Sink>(&mut self, alloc: Global, sink: &mut K) -> Status {
+    fn close<K: Sink>(&self, alloc: Global, sink: &mut K) -> Status {
         let Counts {
             sends,
             answers,
@@ -199,5 +199,5 @@ impl Work for ReverseWork {
         }
     }
 
-    fn is_task() {}
+    fn is_task(&self) {}
 }

@@ -1,12 +1,12 @@
 -- How a run goes on from line to line, and how it ends.
-use Rattle.std.proofs.Common.{◌≡◌, ℕ, ◌+◌, ◌<◌, ◌≤◌, ◌⊎◌, inl, inr, List, [], ◌∷◌, ◌++◌, length, Option, Some, None, refl, sym, ap, ◌∙◌, subst, append_assoc, arith}
+use Rattle.std.proofs.Common.{◌≡◌, ℕ, ◌+◌, ◌<◌, ◌≤◌, Bool, true, false, ◌==◌, ◌||◌, eqb, eqb-true, ◌⊎◌, inl, inr, List, [], ◌∷◌, ◌++◌, length, Option, Some, None, Ok, Err, refl, sym, ap, ◌∙◌, subst, append_assoc, arith}
 use Rattle.std.specs.Io.KnownBytes.{prepend_known}
-use Rattle.std.specs.List.{AllByRecursion}
+use Rattle.std.specs.List.{AllByRecursion, list_any}
 use Rattle.std.proofs.lemmas.List.{append-nil, length-append}
 use Rattle.std.proofs.lemmas.Grind.{flat_map-append}
 use Rattle.std.proofs.lemmas.List.Concat.{flat_map-cons}
 use Rattle.wire_core.specs.Counts.{Rose}
-use Rattle.wire_core.specs.Source.{Consumes}
+use Rattle.wire_core.specs.Source.{Consumes, IsAtEnd}
 use Rattle.wire_core.proofs.SourceLaws.{Consumes-append, Consumes-end, Consumes-none, Consumes-told}
 use Rattle.wire_core.specs.Sink.{Appends, AppendsPrefix}
 use Rattle.wire_core.proofs.SinkLaws.{Appends-append, Appends-none, AppendsPrefix-append, AppendsPrefix-front, AppendsPrefix-none, AppendsPrefix-whole}
@@ -19,9 +19,9 @@ use Rattle.text_lines.specs.declared.raw_lines.RawLine.TheVariants.{Line, LastLi
 use Rattle.text_lines.proofs.LineLemmas.{lines-cut, lines-front, lines-last}
 use Rattle.agent_status.specs.declared.status.Status.{Status}
 use Rattle.agent_status.specs.declared.status.Status.TheVariants.{Done, Usage, BadConfig, BadTranscript, ReadFault, WriteFault, OutOfMemory, TooLong, LinkFault, PeerRefused, NoThread, DatagramFault, LinkEnded}
-use Rattle.text_commands.specs.Tasks.{Adds, AreLines, Closes, EndsBy, EndsCounts, Finishes, IsBad, IsTask, StatusOf, Task, WorksNot, WritesPart, ended_text}
+use Rattle.text_commands.specs.Tasks.{Adds, AreLines, Closes, EndsBy, EndsCounts, Finishes, IsBad, IsTask, FindsBad, StatusOf, TakesEach, TakesLines, Task, WorksNot, WritesPart, ended_text}
 
-each-push : {X : Type 0} (P : X → Type 0) (xs : List X) (y : X) → AllByRecursion P xs → P y → AllByRecursion P (xs ++ y ∷ [])
+pub each-push : {X : Type 0} (P : X → Type 0) (xs : List X) (y : X) → AllByRecursion P xs → P y → AllByRecursion P (xs ++ y ∷ [])
 each-push P [] y each is = (is, tt)
 each-push P (x ∷ xs) y each is = (each.0, each-push P xs y each.1 is)
 
@@ -34,7 +34,7 @@ ended-push : (lines : List (List ℕ)) (l : List ℕ) → ended_text (lines ++ l
 ended-push lines l =
     flat_map-append with_end lines (l ∷ []) ∙ ap (λ r. ended_text lines ++ r) (flat_map-cons with_end l [] ∙ append-nil (with_end l))
 
-lines_of-ended : (lines : List (List ℕ)) (more : List ℕ) → AllByRecursion IsUnended lines
+pub lines_of-ended : (lines : List (List ℕ)) (more : List ℕ) → AllByRecursion IsUnended lines
     → lines_of (ended_text lines ++ more) ≡ lines ++ lines_of more
 lines_of-ended [] more each = refl
 lines_of-ended (l ∷ lines) more each =
@@ -42,6 +42,30 @@ lines_of-ended (l ∷ lines) more each =
     ∙ ap lines_of (append_assoc (with_end l) (ended_text lines) more ∙ append_assoc l (10 ∷ []) (ended_text lines ++ more))
     ∙ lines-cut l (ended_text lines ++ more) each.0
     ∙ ap (λ r. l ∷ r) (lines_of-ended lines more each.1)
+
+-- behind a line: the octet that ends it, or nothing
+abbrev IsCut : List ℕ → Type 0
+IsCut behind = ((rest : List ℕ) × (behind ≡ 10 ∷ rest)) ⊎ (behind ≡ [])
+
+-- the octets before the first one that ends a line, and those behind them
+first-cut : (xs : List ℕ) → (piece : List ℕ) × ((behind : List ℕ) × (xs ≡ piece ++ behind) × IsUnended piece × IsCut behind)
+first-cut [] = ([], ([], refl, refl, inr refl))
+first-cut (x ∷ xs) = by (eqb x 10) refl (first-cut xs)
+  where
+    by : (b : Bool) → eqb x 10 ≡ b → (piece : List ℕ) × ((behind : List ℕ) × (xs ≡ piece ++ behind) × IsUnended piece × IsCut behind)
+        → (piece : List ℕ) × ((behind : List ℕ) × (x ∷ xs ≡ piece ++ behind) × IsUnended piece × IsCut behind)
+    by true e further = ([], (x ∷ xs, refl, refl, inl (xs, ap (λ y. y ∷ xs) (eqb-true x 10 e))))
+    by false e (piece, (behind, rest, unended, ends)) =
+        (x ∷ piece, (behind, ap (λ r. x ∷ r) rest, ap (λ b. b || list_any (λ y. y == 10) piece) e ∙ unended, ends))
+
+unended-append : (xs ys : List ℕ) → IsUnended xs → IsUnended ys → IsUnended (xs ++ ys)
+unended-append [] ys first second = second
+unended-append (x ∷ xs) ys first second = by (eqb x 10) refl (λ first. unended-append xs ys first second)
+  where
+    by : (b : Bool) → eqb x 10 ≡ b → (IsUnended xs → IsUnended (xs ++ ys)) → IsUnended (x ∷ xs ++ ys)
+    by true e further = cc (sym (ap (λ b. b || list_any (λ y. y == 10) xs) e) ∙ first)
+    by false e further =
+        ap (λ b. b || list_any (λ y. y == 10) (xs ++ ys)) e ∙ further (sym (ap (λ b. b || list_any (λ y. y == 10) xs) e) ∙ first)
 
 Held-last : (c : Cutting) (left : Option (List ℕ)) → Consumes (rest_of c left) left c.held.octets
 Held-last c left = record { front = refl }
@@ -65,6 +89,14 @@ status-begun task took raw.TooMuch status lines before left old new taken takes 
 status-begun task took raw.NoMemory status lines before left old new taken takes is usage = cc (is, usage)
 status-begun task took raw.LongLine status lines before left old new taken (xs, (more, unended, further, long, within)) is usage =
     subst (λ s. IsBad task s (lines ++ xs ∷ [])) usage (is lines xs taken long)
+
+status-done : (task : Task) (took : List (List ℕ) → Type 0) (fault : RawFault) (status : Status) (lines : List (List ℕ)) (before left : Option (List ℕ)) (old new : Cutting)
+    → took lines → TakesNone fault before left old new → StatusOf fault took task status → status ≡ Done → ⊥
+status-done task took raw.Read status lines before left old new taken takes is done = cc (is, done)
+status-done task took raw.TooMuch status lines before left old new taken takes is done = cc (is, done)
+status-done task took raw.NoMemory status lines before left old new taken takes is done = cc (is, done)
+status-done task took raw.LongLine status lines before left old new taken (xs, (more, unended, further, long, within)) is done =
+    subst (λ s. IsBad task s (lines ++ xs ∷ [])) done (is lines xs taken long)
 
 bad-counts : (task : Task) (status : Status) (lines : List (List ℕ)) (a a' b b' d d' : ℕ) → IsBad task status lines → EndsCounts status a a' b b' d d'
 bad-counts task (BadTranscript number reason) lines a a' b b' d d' bad = tt
@@ -493,3 +525,227 @@ module _ (task : Task) (took : List (List ℕ) → Type 0) (law : IsTask task) w
     taken = subst (λ l. Consumes l left []) told (Consumes-none left);
     written = AppendsPrefix-none written (task.text []);
   }
+
+  -- ---- behind all lines that end
+
+  -- the first bad line, where the status says that there is one
+  abbrev Found : Status → List ℕ → Type 0
+  Found (BadTranscript number reason) X = FindsBad task (record { line = number; reason = reason }) X
+  Found status X = Unit {0}
+
+  stops : {input : Option (List ℕ)} (left before now : Option (List ℕ)) (line : List ℕ) (status : Status) → (status ≡ Done → ⊥) → (status ≡ Usage → ⊥)
+      → ((X : List ℕ) → input ≡ Some X → EndsBy task status X left before now × Found status X) → TakesLines task took (Err status) input left line before now
+  stops left before now line Done done begun ends = absurd (done refl)
+  stops left before now line Usage done begun ends = absurd (begun refl)
+  stops left before now line (BadTranscript number reason) done begun ends = ends
+  stops left before now line ReadFault done begun ends = λ X told. (ends X told).0
+  stops left before now line WriteFault done begun ends = λ X told. (ends X told).0
+  stops left before now line OutOfMemory done begun ends = λ X told. (ends X told).0
+  stops left before now line TooLong done begun ends = λ X told. (ends X told).0
+  stops left before now line LinkFault done begun ends = λ X told. (ends X told).0
+  stops left before now line (PeerRefused code) done begun ends = λ X told. (ends X told).0
+  stops left before now line NoThread done begun ends = λ X told. (ends X told).0
+  stops left before now line DatagramFault done begun ends = λ X told. (ends X told).0
+  stops left before now line (LinkEnded cause) done begun ends = λ X told. (ends X told).0
+  stops left before now line (BadConfig fault) done begun ends = λ X told. (ends X told).0
+
+  -- the line that wasn't taken is bad
+  found-line : {before now : Option (List ℕ)} (after : Option (List ℕ)) (status : Status) (X : List ℕ) (old new : Cutting) (left then : Option (List ℕ))
+      → (g : Goes task took (Some X) old left before now) → TakesRawLine Line (rest_of old left) (rest_of new then) old new → IsUnended new.line
+      → WorksNot task status g.lines new.line now after → Found status X
+  found-line after (BadTranscript number reason) X old new left then g takes unended works =
+      let (ys, told, cut) = told-by X old left g in
+      let (zs, still, front) = Consumes-told takes.0 ys told in
+      record {
+        lines = g.lines;
+        each = g.each;
+        sound = g.sound;
+        line = new.line;
+        unended = unended;
+        is_bad = works.0;
+        behind = 10 ∷ zs;
+        octets = cut ∙ ap (λ r. ended_text g.lines ++ r) (front ∙ append_assoc new.line (10 ∷ []) zs);
+        ends = inl (zs, refl);
+      }
+  found-line after Done X old new left then g takes unended works = tt
+  found-line after Usage X old new left then g takes unended works = tt
+  found-line after ReadFault X old new left then g takes unended works = tt
+  found-line after WriteFault X old new left then g takes unended works = tt
+  found-line after OutOfMemory X old new left then g takes unended works = tt
+  found-line after TooLong X old new left then g takes unended works = tt
+  found-line after LinkFault X old new left then g takes unended works = tt
+  found-line after (PeerRefused code) X old new left then g takes unended works = tt
+  found-line after NoThread X old new left then g takes unended works = tt
+  found-line after DatagramFault X old new left then g takes unended works = tt
+  found-line after (LinkEnded cause) X old new left then g takes unended works = tt
+  found-line after (BadConfig fault) X old new left then g takes unended works = tt
+
+  -- the line that couldn't be taken of the source is bad, where it has too many octets
+  found-fault : {before now : Option (List ℕ)} (fault : RawFault) (status : Status) (X : List ℕ) (old new : Cutting) (left then : Option (List ℕ))
+      → (g : Goes task took (Some X) old left before now) → TakesNone fault (rest_of old left) then old new → StatusOf fault took task status → Found status X
+  found-fault raw.Read status X old new left then g takes is = subst (λ s. Found s X) (sym is) tt
+  found-fault raw.TooMuch status X old new left then g takes is = subst (λ s. Found s X) (sym is) tt
+  found-fault raw.NoMemory status X old new left then g takes is = subst (λ s. Found s X) (sym is) tt
+  found-fault raw.LongLine status X old new left then g (xs, (more, unended, takes, long, within)) is =
+      let (ys, told, cut) = told-by X old left g in
+      let (zs, still, front) = Consumes-told takes ys told in
+      let (piece, (behind, rest, is_piece, ends)) = first-cut (more ++ zs) in
+      by status piece behind (is g.lines (xs ++ piece) g.taken (omega (arith, long, length-append xs piece)))
+      (cut ∙ ap (λ r. ended_text g.lines ++ r) (front ∙ append_assoc xs more zs ∙ ap (λ r. xs ++ r) rest ∙ sym (append_assoc xs piece behind)))
+      (unended-append xs piece unended is_piece) ends
+    where
+      by : (status : Status) (piece behind : List ℕ) → IsBad task status (g.lines ++ (xs ++ piece) ∷ []) → X ≡ ended_text g.lines ++ ((xs ++ piece) ++ behind)
+          → IsUnended (xs ++ piece) → IsCut behind → Found status X
+      by (BadTranscript number reason) piece behind bad octets unended ends = record {
+        lines = g.lines;
+        each = g.each;
+        sound = g.sound;
+        line = xs ++ piece;
+        unended = unended;
+        is_bad = bad;
+        behind = behind;
+        octets = octets;
+        ends = found ends;
+      }
+        where
+          found : IsCut behind → ((rest : List ℕ) × (behind ≡ 10 ∷ rest)) ⊎ ((behind ≡ []) × (140100 < length (xs ++ piece)))
+          found (inl ended) = inl ended
+          found (inr none) = inr (none, omega (arith, long, length-append xs piece))
+      by Done piece behind bad octets unended ends = tt
+      by Usage piece behind bad octets unended ends = tt
+      by ReadFault piece behind bad octets unended ends = tt
+      by WriteFault piece behind bad octets unended ends = tt
+      by OutOfMemory piece behind bad octets unended ends = tt
+      by TooLong piece behind bad octets unended ends = tt
+      by LinkFault piece behind bad octets unended ends = tt
+      by (PeerRefused code) piece behind bad octets unended ends = tt
+      by NoThread piece behind bad octets unended ends = tt
+      by DatagramFault piece behind bad octets unended ends = tt
+      by (LinkEnded cause) piece behind bad octets unended ends = tt
+      by (BadConfig fault) piece behind bad octets unended ends = tt
+
+  -- a line wasn't taken
+  pub stops-line : {input before now : Option (List ℕ)} (after : Option (List ℕ)) (present : List ℕ) (status : Status) (old new : Cutting) (left then : Option (List ℕ))
+      → Goes task took input old left before now → TakesRawLine Line (rest_of old left) (rest_of new then) old new → IsUnended new.line
+      → new.held.passed + length new.held.octets ≤ most_octets → ((lines : List (List ℕ)) → took lines → WorksNot task status lines new.line now after)
+      → TakesLines task took (Err status) input then present before after
+  stops-line {before = before} {now = now} after present status old new left then g takes unended within works =
+      stops then before after present status (none Done (λ not. not)) (none Usage (λ not. not)) (λ X told.
+      let h = subst (λ input. Goes task took input old left before now) told g in (
+        ends-line status X old new left then after h takes unended within (works h.lines h.taken),
+        found-line after status X old new left then h takes unended (works h.lines h.taken),
+      ))
+    where
+      none : (other : Status) → (WorksNot task other g.lines new.line now after → ⊥) → status ≡ other → ⊥
+      none other not is = not (subst (λ s. WorksNot task s g.lines new.line now after) is (works g.lines g.taken))
+
+  -- or couldn't be taken of the source
+  pub stops-fault : {input before now : Option (List ℕ)} (present : List ℕ) (fault : RawFault) (status : Status) (old new : Cutting) (left then : Option (List ℕ))
+      → (g : Goes task took input old left before now) → TakesNone fault (rest_of old left) then old new → StatusOf fault took task status
+      → TakesLines task took (Err status) input then present before now
+  stops-fault {before = before} {now = now} present fault status old new left then g takes is =
+      stops then before now present status (status-done task took fault status g.lines (rest_of old left) then old new g.taken takes is)
+      (status-begun task took fault status g.lines (rest_of old left) then old new g.taken takes is)
+      (λ X told.
+      let h = subst (λ input. Goes task took input old left before now) told g in (
+        ends-fault fault status X old new left then h takes is,
+        found-fault fault status X old new left then h takes is,
+      ))
+
+  -- where nothing is to come, nothing is held
+  rest-at-end : (c : Cutting) (left : Option (List ℕ)) → IsAtEnd (rest_of c left) → (rest_of c left ≡ left) × IsAtEnd left
+  rest-at-end c None end = (refl, λ xs told. cc)
+  rest-at-end c (Some ys) end =
+      let (held, left) = none-left c.held.octets ys (sym (end (c.held.octets ++ ys) refl)) in
+      (ap (λ h. Some (h ++ ys)) held, λ xs told. cc (told, left))
+
+  pub behind-last : {input before now : Option (List ℕ)} (old new : Cutting) (left then : Option (List ℕ)) → (g : Goes task took input old left before now)
+      → TakesRawLine LastLine (rest_of old left) (rest_of new then) old new → new.held.passed + length new.held.octets ≤ most_octets
+      → TakesEach task took input then before now new.line
+  behind-last {input = input} old new left then g (takes, end, some, passed) within =
+      let (rest, ended) = rest-at-end new then end in
+      record {
+        lines = g.lines;
+        taken = g.taken;
+        each = g.each;
+        sound = g.sound;
+        octets = subst (λ rest. Consumes input rest (ended_text g.lines ++ new.line)) rest (Consumes-append g.octets takes);
+        few = omega (arith, g.passed, passed, within, length-append (ended_text g.lines) new.line);
+        ended = ended;
+        written = g.wrote;
+      }
+
+  pub behind-end : {input before now : Option (List ℕ)} (old new : Cutting) (left then : Option (List ℕ)) → (g : Goes task took input old left before now)
+      → TakesRawLine End (rest_of old left) (rest_of new then) old new → new.held.passed + length new.held.octets ≤ most_octets
+      → TakesEach task took input then before now []
+  behind-end {input = input} old new left then g (same, end, passed) within =
+      let (rest, ended) = rest-at-end new then (subst IsAtEnd (sym same) end) in
+      record {
+        lines = g.lines;
+        taken = g.taken;
+        each = g.each;
+        sound = g.sound;
+        octets =
+            subst (λ xs. Consumes input then xs) (sym (append-nil (ended_text g.lines)))
+            (subst (λ rest. Consumes input rest (ended_text g.lines)) (sym same ∙ rest) g.octets);
+        few = omega (arith, g.passed, passed, within, ap length (append-nil (ended_text g.lines)));
+        ended = ended;
+        written = g.wrote;
+      }
+
+  prepend-none : (left : Option (List ℕ)) → prepend_known [] left ≡ left
+  prepend-none None = refl
+  prepend-none (Some xs) = refl
+
+  prepend-append : (xs ys : List ℕ) (left : Option (List ℕ)) → prepend_known (xs ++ ys) left ≡ prepend_known xs (prepend_known ys left)
+  prepend-append xs ys None = refl
+  prepend-append xs ys (Some zs) = ap Some (append_assoc xs ys zs)
+
+  -- these octets are held behind all lines
+  abbrev holding : List ℕ → List ℕ → ℕ → Cutting
+  holding line octets passed = record { line = line; held = record { octets = octets; passed = passed } }
+
+  goes-behind : {input left before now : Option (List ℕ)} (behind : List ℕ) → (t : TakesEach task took input left before now behind)
+      → Goes task took input (holding behind behind (length (ended_text t.lines))) left before now
+  goes-behind {left = left} behind t = record {
+    lines = t.lines;
+    taken = t.taken;
+    each = t.each;
+    sound = t.sound;
+    wrote = t.written;
+    passed = refl;
+    octets = record { front = t.octets.front ∙ prepend-append (ended_text t.lines) behind left };
+  }
+
+  -- the run ends behind them
+  ends-behind-last : {left before now : Option (List ℕ)} (after : Option (List ℕ)) (status : Status) (X line : List ℕ) → (t : TakesEach task took (Some X) left before now line)
+      → IsUnended line → 0 < length line → Finishes task status t.lines line now after → EndsBy task status X left before after
+  unfolding goes-behind
+  ends-behind-last {left = left} after status X line t unended some finishes =
+      let n = length (ended_text t.lines) in
+      ends-last status X (holding line line n) (holding line [] (n + length line)) left left after (goes-behind line t)
+      (record { front = ap (λ rest. prepend_known line rest) (sym (prepend-none left)) }, λ xs told. t.ended xs (sym (prepend-none left) ∙ told), some, refl)
+      unended (omega (arith, t.few, length-append (ended_text t.lines) line)) finishes
+
+  ends-behind-end : {left before now : Option (List ℕ)} (after : Option (List ℕ)) (status : Status) (X : List ℕ) → (t : TakesEach task took (Some X) left before now [])
+      → Closes task status t.lines now after → EndsBy task status X left before after
+  unfolding goes-behind
+  ends-behind-end {left = left} after status X t closes =
+      let n = length (ended_text t.lines) in
+      ends-close status X (holding [] [] n) (holding [] [] n) left left after (goes-behind [] t)
+      (refl, λ xs told. t.ended xs (sym (prepend-none left) ∙ told), refl)
+      (omega (arith, t.few, ap length (append-nil (ended_text t.lines)))) closes
+
+  pub ends-more : {input left before now : Option (List ℕ)} (after : Option (List ℕ)) (status : Status) (X line : List ℕ) → input ≡ Some X
+      → TakesLines task took (Ok true) input left line before now → ((lines : List (List ℕ)) → took lines → Finishes task status lines line now after)
+      → EndsBy task status X left before after
+  ends-more {left = left} {before = before} {now = now} after status X line told (each, unended, some) finishes =
+      let t = subst (λ input. TakesEach task took input left before now line) told each in
+      ends-behind-last after status X line t unended some (finishes t.lines t.taken)
+
+  pub ends-all : {input left before now : Option (List ℕ)} (after : Option (List ℕ)) (status : Status) (X line : List ℕ) → input ≡ Some X
+      → TakesLines task took (Ok false) input left line before now → ((lines : List (List ℕ)) → took lines → Closes task status lines now after)
+      → EndsBy task status X left before after
+  ends-all {left = left} {before = before} {now = now} after status X line told each closes =
+      let t = subst (λ input. TakesEach task took input left before now []) told each in
+      ends-behind-end after status X t (closes t.lines t.taken)

@@ -1,16 +1,16 @@
 -- What a command makes of the lines of its input, and how it may end.
-use Rattle.std.specs.Prelude.{◌≡◌, ℕ, ◌<◌, ◌≤◌, ◌⊎◌, List, [], ◌∷◌, ◌++◌, length, Option, Some, None, Result, Ok, Err}
+use Rattle.std.specs.Prelude.{◌≡◌, ℕ, ◌<◌, ◌≤◌, ◌⊎◌, Bool, true, false, List, [], ◌∷◌, ◌++◌, length, Option, Some, None, Result, Ok, Err}
 use Rattle.std.specs.List.{AllByRecursion, flat_map}
 use Rattle.wire_core.specs.Counts.{Rose}
 use Rattle.wire_core.specs.Sink.{Appends, AppendsPrefix}
-use Rattle.wire_core.specs.Source.{Consumes}
+use Rattle.wire_core.specs.Source.{Consumes, IsAtEnd}
 use Rattle.text_lines.specs.Stops.{Bad}
 use Rattle.text_lines.specs.Streams.{IsUnended, most_octets}
 use Rattle.text_lines.specs.declared.raw_lines.RawFault.{RawFault}
 use Rattle.text_lines.specs.declared.raw_lines.RawFault.TheVariants as raw
 use Rattle.text_lines.specs.Words.{lines_of}
 use Rattle.agent_status.specs.declared.status.Status.{Status}
-use Rattle.agent_status.specs.declared.status.Status.TheVariants.{Done, BadConfig, BadTranscript, ReadFault, WriteFault, OutOfMemory, TooLong}
+use Rattle.agent_status.specs.declared.status.Status.TheVariants.{Done, Usage, BadConfig, BadTranscript, ReadFault, WriteFault, OutOfMemory, TooLong}
 
 -- what a command makes of lines: which is the first bad one, what those before it print, and what stands after all lines
 pub record Task : Type 0 where
@@ -149,11 +149,49 @@ EndsBy task OutOfMemory input left before now = WritesPart task input left befor
 EndsBy task TooLong input left before now = Overruns task input left before now
 EndsBy task status input left before now = ⊥
 
+-- Lines that end were taken, none of them bad, and what they print was written. The input is at its end behind these octets.
+pub record TakesEach (task : Task) (took : List (List ℕ) → Type 0) (input left before now : Option (List ℕ)) (behind : List ℕ) : Type 0 where
+  pub lines : List (List ℕ)
+  pub taken : took lines
+  pub each : AllByRecursion IsUnended lines
+  pub sound : task.stop lines ≡ None
+  pub octets : Consumes input left (ended_text lines ++ behind)
+  pub few : length (ended_text lines ++ behind) ≤ most_octets
+  pub ended : IsAtEnd left
+  pub written : Appends before now (task.text lines)
+
+-- The line behind these is the first bad one. It ends by the octet 0a, or with the input, where it has more octets than a line
+-- may have.
+pub record FindsBad (task : Task) (bad : Bad) (input : List ℕ) : Type 0 where
+  pub lines : List (List ℕ)
+  pub each : AllByRecursion IsUnended lines
+  pub sound : task.stop lines ≡ None
+  pub line : List ℕ
+  pub unended : IsUnended line
+  pub is_bad : task.stop (lines ++ line ∷ []) ≡ Some bad
+  pub behind : List ℕ
+  pub octets : input ≡ ended_text lines ++ (line ++ behind)
+  pub ends : ((rest : List ℕ) × (behind ≡ 10 ∷ rest)) ⊎ ((behind ≡ []) × (140100 < length line))
+
+-- all lines that end were taken, and the input is at its end behind them or behind a further line, or they weren't
+abbrev pub TakesLines : Task → (List (List ℕ) → Type 0) → Result Bool Status → Option (List ℕ) → Option (List ℕ) → List ℕ
+    → Option (List ℕ) → Option (List ℕ) → Type 0
+TakesLines task took (Ok true) input left line before now =
+    TakesEach task took input left before now line × IsUnended line × (0 < length line)
+TakesLines task took (Ok false) input left line before now = TakesEach task took input left before now []
+TakesLines task took (Err Done) input left line before now = ⊥
+TakesLines task took (Err Usage) input left line before now = ⊥
+TakesLines task took (Err (BadTranscript number reason)) input left line before now =
+    (octets : List ℕ) → input ≡ Some octets → EndsBy task (BadTranscript number reason) octets left before now
+    × FindsBad task (record { line = number; reason = reason }) octets
+TakesLines task took (Err status) input left line before now =
+    (octets : List ℕ) → input ≡ Some octets → EndsBy task status octets left before now
+
 -- how a command ends whose next line can't be taken of the source
 abbrev pub StatusOf : RawFault → (List (List ℕ) → Type 0) → Task → Status → Type 0
 StatusOf raw.Read took task status = status ≡ ReadFault
 StatusOf raw.TooMuch took task status = status ≡ TooLong
-StatusOf raw.LongLine took task status = (lines : List (List ℕ)) (octets : List ℕ) → took lines → 140000 < length octets
+StatusOf raw.LongLine took task status = (lines : List (List ℕ)) (octets : List ℕ) → took lines → 140100 < length octets
     → IsBad task status (lines ++ octets ∷ [])
 StatusOf raw.NoMemory took task status = status ≡ OutOfMemory
 
@@ -164,3 +202,8 @@ EndsCounts (BadConfig fault) ends ends' reads reads' writes writes' = Rose ends 
 EndsCounts ReadFault ends ends' reads reads' writes writes' = Rose reads reads'
 EndsCounts WriteFault ends ends' reads reads' writes writes' = Rose writes writes'
 EndsCounts status ends ends' reads reads' writes writes' = Unit {0}
+
+-- the same where all lines that end were taken, or weren't
+abbrev pub TakesCounts : Result Bool Status → ℕ → ℕ → ℕ → ℕ → ℕ → ℕ → Type 0
+TakesCounts (Ok more) ends ends' reads reads' writes writes' = Rose ends ends'
+TakesCounts (Err status) ends ends' reads reads' writes writes' = EndsCounts status ends ends' reads reads' writes writes'

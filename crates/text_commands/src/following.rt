@@ -83,7 +83,7 @@ fn line_status(fault: LineFault) -> Status
 }
 
 impl<F: Follower> Work for TranscriptWork<F> {
-    ghost task = { transcript_task F.rule };
+    ghost task = { λ _. transcript_task F.rule };
 
     ghost took = { Takes F.rule F.followed };
 
@@ -95,7 +95,7 @@ impl<F: Follower> Work for TranscriptWork<F> {
         }
     }
 
-    fn close<K: Sink>(&mut self, alloc: Global, sink: &mut K) -> Status {
+    fn close<K: Sink>(&self, alloc: Global, sink: &mut K) -> Status {
         self.follower.close(alloc, sink)
     }
 
@@ -103,7 +103,7 @@ impl<F: Follower> Work for TranscriptWork<F> {
         line_status(self.reader.too_long())
     }
 
-    fn is_task() {}
+    fn is_task(&self) {}
 }
 
 /// Reads a transcript from the input, and has each of its lines followed before the next one is read.

@@ -17,4 +17,4 @@ pub use settings_input::take_settings;
 pub use showing::show;
 pub use told_settings::join_client;
 pub use whole_input::take_whole;
-pub use work::{Work, run, write_text};
+pub use work::{Work, run, take_lines, write_text};

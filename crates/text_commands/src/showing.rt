@@ -43,7 +43,7 @@ fn text_of(alloc: Global, number: u64, line: &[u8]) -> Result<Octets, Status>
 }
 
 impl Work for ShowWork {
-    ghost task = { show_task };
+    ghost task = { λ _. show_task };
 
     ghost took = { Shows };
 
@@ -62,7 +62,7 @@ impl Work for ShowWork {
         }
     }
 
-    fn close<K: Sink>(&mut self, _alloc: Global, _sink: &mut K) -> Status {
+    fn close<K: Sink>(&self, _alloc: Global, _sink: &mut K) -> Status {
         Status::Done
     }
 
@@ -73,7 +73,7 @@ impl Work for ShowWork {
         }
     }
 
-    fn is_task() {}
+    fn is_task(&self) {}
 }
 
 /// Reads lines `radius HEX` and `diameter HEX`, and prints what each packet or message holds, or what is wrong with

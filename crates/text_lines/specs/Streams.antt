@@ -50,7 +50,7 @@ Cuts (Ok true) old new = (piece : List ℕ) × IsUnended piece × (old.held.octe
 Cuts (Ok false) old new = IsUnended old.held.octets × (new.held.octets ≡ [])
     × (new.line ≡ old.line ++ old.held.octets) × (new.held.passed ≡ old.held.passed + length old.held.octets)
 Cuts (Err raw.LongLine) old new = (piece : List ℕ) × ((more : List ℕ) × IsUnended piece
-    × (old.held.octets ≡ piece ++ more) × (140000 < length old.line + length piece))
+    × (old.held.octets ≡ piece ++ more) × (140100 < length old.line + length piece))
 Cuts (Err raw.NoMemory) old new = ⊤
 Cuts (Err fault) old new = ⊥
 
@@ -78,7 +78,7 @@ abbrev pub TakesNone : RawFault → Option (List ℕ) → Option (List ℕ) → 
 TakesNone raw.Read before left old new = (xs : List ℕ) × IsUnended xs × Consumes before left xs
 TakesNone raw.TooMuch before left old new = (xs : List ℕ) × ((x : ℕ) × IsUnended xs × Consumes before left (xs ++ x ∷ [])
     × (old.held.passed + length xs ≡ most_octets))
-TakesNone raw.LongLine before left old new = (xs : List ℕ) × ((more : List ℕ) × IsUnended xs × Consumes before left (xs ++ more) × (140000 < length xs)
+TakesNone raw.LongLine before left old new = (xs : List ℕ) × ((more : List ℕ) × IsUnended xs × Consumes before left (xs ++ more) × (140100 < length xs)
     × (old.held.passed + length (xs ++ more) ≤ most_octets))
 TakesNone raw.NoMemory before left old new = (xs : List ℕ) × Consumes before left xs
 

@@ -10,8 +10,8 @@ use std::alloc::{AllocError, Global};
 use std::marker::Model;
 use wire_core::{NoMemory, Source};
 
-/// How many octets a line has at most.
-const LONGEST_LINE: usize = 140_000;
+/// How many octets a line of any text has at most: one of a journal, which has two in front of a transcript's line.
+const LONGEST_LINE: usize = 140_100;
 
 /// Why there is no next line.
 #[derive(Clone, Copy, PartialEq, Eq)]
@@ -68,7 +68,7 @@ fn line_end(octets: &[u8]) -> Option<usize>
 }
 
 /// The octets before the first one that ends a line, and whether there is one.
-fn first_piece(octets: &[u8]) -> (&[u8], bool)
+pub fn first_piece(octets: &[u8]) -> (&[u8], bool)
     ensures { IsFirstPiece result.1 octets.now result.0.now }
 {
     match line_end(octets) {
@@ -118,7 +118,7 @@ impl RawLines {
         ensures cuts { Cuts result self.old self.new }
         ensures within { self.new.held.passed + length self.new.held.octets ≤ most_octets }
         ensures grows { self.old.held.passed ≤ self.new.held.passed }
-        ensures short { OnOk result (length self.new.line ≤ 140000) }
+        ensures short { OnOk result (length self.new.line ≤ 140100) }
     {
         let (piece, ends) = first_piece(self.intake.octets());
         let count = piece.len();
@@ -134,7 +134,7 @@ impl RawLines {
     pub fn next_line<S: Source>(&mut self, source: &mut S) -> Result<RawLine, RawFault>
         ensures line { IfOk result (λ line. TakesRawLine line (rest_of self.old (S.left source.old)) (rest_of self.new (S.left source.new)) self.old self.new) }
         ensures unended { IfOk result (λ line. IsUnended self.new.line) }
-        ensures short { OnOk result (length self.new.line ≤ 140000) }
+        ensures short { OnOk result (length self.new.line ≤ 140100) }
         ensures within { self.new.held.passed + length self.new.held.octets ≤ most_octets }
         ensures grows { self.old.held.passed ≤ self.new.held.passed }
         ensures fault { IfErr result (λ fault. TakesNone fault (rest_of self.old (S.left source.old)) (S.left source.new) self.old self.new) }

@@ -98,7 +98,8 @@ pub raw-none : (f : RawFault) (why : LineFault) (at : At) (before left : Option 
 raw-none raw.Read why at before left old new takes is = subst (λ w. ReadsNone w at before left old) (sym is) takes
 raw-none raw.TooMuch why at before left old new takes is = subst (λ w. ReadsNone w at before left old) (sym is) takes
 raw-none raw.NoMemory why at before left old new takes is = subst (λ w. ReadsNone w at before left old) (sym is) takes
-raw-none raw.LongLine why at before left old new (xs, (more, unended, taken, long, within)) is = long-bad why at before left old xs more unended taken long is
+raw-none raw.LongLine why at before left old new (xs, (more, unended, taken, long, within)) is =
+    long-bad why at before left old xs more unended taken (omega (arith, long)) is
 
 long-read : (why : LineFault) (at : At) (octets : List ℕ) → 140000 < length octets → TooLong why at → why ≡ fault.Read → ⊥
 long-read fault.Read at octets long bad is = bad octets long
@@ -114,7 +115,7 @@ raw-read : (f : RawFault) (why : LineFault) (at : At) (before left : Option (Lis
 raw-read raw.Read why at before left old new takes is read = refl
 raw-read raw.TooMuch why at before left old new takes is read = cc (is, read)
 raw-read raw.NoMemory why at before left old new takes is read = cc (is, read)
-raw-read raw.LongLine why at before left old new (xs, (more, unended, taken, long, within)) is read = absurd (long-read why at xs long is read)
+raw-read raw.LongLine why at before left old new (xs, (more, unended, taken, long, within)) is read = absurd (long-read why at xs (omega (arith, long)) is read)
 
 read-raw : (f : RawFault) (why : LineFault) (at : At) → IsOfLine f at why → f ≡ raw.Read → why ≡ fault.Read
 read-raw raw.Read why at is read = is

@@ -5,8 +5,8 @@ use Rattle.text_commands.proofs.work.finish.Goals as goal
 pub returns-in-Ok-clause-finishes : goal.returns-in-Ok-clause-finishes
 returns-in-Ok-clause-finishes g c = λ lines took.
     let (further, (text, adds, wrote)) = c.in-Ok.ensures.works lines took in
-    finish-ok g.W.Work.task c.close.result lines c.args.line.now text _ _ _ adds wrote (c.close.ensures.closes (lines ++ c.args.line.now ∷ []) further)
+    finish-ok (g.W.Work.task c.args.work.now) c.close.result lines c.args.line.now text _ _ _ adds wrote (rw c.in-Ok.ensures.same at (c.close.ensures.closes (lines ++ c.args.line.now ∷ []) further))
 
 pub returns-in-Err-clause-finishes : goal.returns-in-Err-clause-finishes
 returns-in-Err-clause-finishes g c = λ lines took.
-    finish-err g.W.Work.task c.in-Err.status lines c.args.line.now _ _ (c.in-Err.ensures.works lines took)
+    finish-err (g.W.Work.task c.args.work.now) c.in-Err.status lines c.args.line.now _ _ (c.in-Err.ensures.works lines took)

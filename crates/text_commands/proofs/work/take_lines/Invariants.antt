@@ -1,11 +1,12 @@
 use Rattle.std.proofs.Common.{◌≡◌, ◌-◌, ◌≤◌}
 use Rattle.text_commands.proofs.TaskLemmas.{Goes}
 use Rattle.text_lines.specs.Streams.{most_octets}
-use Rattle.text_commands.proofs.work.run.Given as goal
+use Rattle.text_commands.proofs.work.take_lines.Given as goal
 
 abbrev pub invariant-loop-work : goal.invariant-loop-work
 invariant-loop-work g l = record {
-  goes : Goes g.W.Work.task (g.W.Work.took l.work) (g.S.Source.left l.initial.input) l.lines (g.S.Source.left l.input)
+  same : g.W.Work.task l.work ≡ g.W.Work.task l.initial.work;
+  goes : Goes (g.W.Work.task l.initial.work) (g.W.Work.took l.work) (g.S.Source.left l.initial.input) l.lines (g.S.Source.left l.input)
       (g.K.Sink.written l.initial.output) (g.K.Sink.written l.output);
   ends : g.S.Source.ends l.input ≡ g.S.Source.ends l.initial.input;
   reads : g.S.Source.faults l.input ≡ g.S.Source.faults l.initial.input;

@@ -1,0 +1,9 @@
+pub mod BlockLemmas
+pub mod LineLemmas
+pub mod PassLemmas
+pub mod ReasonLemmas
+pub mod SeenLemmas
+pub mod StepLemmas
+pub mod TaskLemmas
+pub mod VerdictLemmas
+pub mod WriteLemmas

@@ -1,0 +1,10 @@
+pub mod Blocks
+pub mod Checking
+pub mod Due
+pub mod Faults
+pub mod Journal
+pub mod Limits
+pub mod Printed
+pub mod Stands
+pub mod Verdicts
+pub mod Writing
