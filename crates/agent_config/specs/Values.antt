@@ -1,8 +1,7 @@
 -- What the value of a key stands for, where it stands for something (profile).
 use Rattle.std.specs.Prelude.{ℕ, ℤ, pos, negsuc, ◌+◌, Bool, true, false, nat_le, List, [], ◌∷◌, length, codes, bytes_eq, Option, None, Some, option_map, option_and_then, if◌then◌else◌}
-use Rattle.std.specs.Net.Reader.{read_ipv4}
 use Rattle.toml.specs.Data.{Data, Items, no_items, item, Members, as_str, as_integer, as_array, as_table}
-use Rattle.wire_core.specs.Numbers.{number}
+use Rattle.address_text.specs.Address.{address_in}
 use Rattle.agent_settings.specs.Config.{is_between, is_name}
 
 -- what passes a test
@@ -17,15 +16,7 @@ name_of d = option_and_then (passed is_name) (as_str d)
 abbrev pub secret_of : Data → Option (List ℕ)
 secret_of d = option_and_then (passed (λ text. is_between 1 128 (length text))) (as_str d)
 
--- four octets, where nothing follows them
-abbrev pub alone : List ℕ × List ℕ → Option ℕ
-alone (octets, []) = Some (number octets)
-alone (octets, x ∷ rest) = None
-
--- an IPv4 address: four decimal numbers up to 255, without leading zeros, with dots between them
-abbrev pub address_in : List ℕ → Option ℕ
-address_in text = option_and_then alone (read_ipv4 text)
-
+-- an IPv4 address as text
 abbrev pub address_of : Data → Option ℕ
 address_of d = option_and_then address_in (as_str d)
 

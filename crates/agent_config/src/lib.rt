@@ -7,6 +7,7 @@ mod laws;
 mod reading;
 mod values;
 
+pub use address_text::read_address;
 pub use agent_settings::{
     AddressList, Client, Clients, Config, ConfigFault, client_keeps_limits, clients_are_in_limits,
     found_stands_at_place, is_client_in_limits, is_in_limits,
@@ -14,4 +15,3 @@ pub use agent_settings::{
 pub use gathering::clients_from;
 pub use laws::{distinct_unless_twice, settings_are_in_limits};
 pub use reading::read;
-pub use values::read_address;

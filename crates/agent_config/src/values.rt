@@ -5,11 +5,11 @@ ghost use Rattle.toml.specs.Data.{as_table};
 ghost use Rattle.toml.specs.View.{view, items_view};
 ghost use Rattle.agent_config.specs.Values as values;
 
+use address_text::read_address;
 use agent_settings::{AddressList, is_name};
 use std::alloc::Global;
-use std::net::Ipv4Addr;
 use toml::Value;
-use wire_core::{NoMemory, get_u32};
+use wire_core::NoMemory;
 
 /// How many addresses a list has at most.
 const MOST_ADDRESSES: usize = 64;
@@ -34,16 +34,6 @@ pub(crate) fn secret_in(value: &Value) -> Option<&[u8]>
         Some(text)
     } else {
         None
-    }
-}
-
-/// An IPv4 address: four decimal numbers up to 255, without leading zeros, with dots between them.
-pub fn read_address(text: &[u8]) -> Option<u32>
-    ensures { result ≡ values.address_in text.now }
-{
-    match Ipv4Addr::parse_ascii(text) {
-        Ok(address) => Some(get_u32(&address.octets(), 0)),
-        Err(_) => None,
     }
 }
 

@@ -84,7 +84,7 @@ by-bool : (b : Bool) → 0 + cond b 1 0 ≡ count_of b
 by-bool true = refl
 by-bool false = refl
 
-one-sent : (test : Header → Bool) (octets : List ℕ) (b : Bool) → test (header_of octets) ≡ b → count-sent test (Some octets) ≡ count_of b
+pub one-sent : (test : Header → Bool) (octets : List ℕ) (b : Bool) → test (header_of octets) ≡ b → count-sent test (Some octets) ≡ count_of b
 one-sent test octets b e = ap (λ c. 0 + cond c 1 0) e ∙ by-bool b
 
 any-sent : (send : Option (List ℕ)) → count-sent (λ h. true) send ≡ count_of (is_some send)
@@ -111,13 +111,13 @@ request-first CapabilitiesExchange hop end = refl
 request-first DeviceWatchdog hop end = refl
 request-first DisconnectPeer hop end = refl
 
-base-text : (test : Header → Bool) → LooksAt test → (names : Names) (r : BaseRequest) (hop end : ℕ) → test (header_of (request_text names r hop end)) ≡ test (request_header r hop end)
+pub base-text : (test : Header → Bool) → LooksAt test → (names : Names) (r : BaseRequest) (hop end : ℕ) → test (header_of (request_text names r hop end)) ≡ test (request_header r hop end)
 unfolding request_text
 base-text test looks names r hop end =
     text-test test looks (request_header r hop end) (avps_text (origin_avps names.host names.realm ++ details names r)) (command-small r)
 
 -- an answer isn't a request
-answer-low : (h : Header) (error : Bool) → (answer_header h error).flags < 128
+pub answer-low : (h : Header) (error : Bool) → (answer_header h error).flags < 128
 answer-low h true = or_lt 7 (bit_and h.flags 64) 32 (let part = and_le_r h.flags 64 in omega arith) (omega arith)
 answer-low h false = or_lt 7 (bit_and h.flags 64) 0 (let part = and_le_r h.flags 64 in omega arith) (omega arith)
 
@@ -148,7 +148,7 @@ base-wants h e = ap (λ b. b && is_base_command h.command) e
 first-wants : Wants is_first_request
 first-wants h e = ap (λ b. b && bit_and h.flags 16 == 0) e
 
-answered-none : (test : Header → Bool) → Wants test → (names : Names) (message : Option MessageParts) (code : ℕ) (error : Bool) → count-sent test (answered names message code error) ≡ 0
+pub answered-none : (test : Header → Bool) → Wants test → (names : Names) (message : Option MessageParts) (code : ℕ) (error : Bool) → count-sent test (answered names message code error) ≡ 0
 answered-none test wants names None code error = refl
 answered-none test wants names (Some m) code error =
     let octets = answer_text names m code error in one-sent test octets false (wants (header_of octets) (answer-request names m code error))
@@ -210,7 +210,7 @@ again-from test b n (t ∷ ts) all =
 pub resends-count : (test : Header → Bool) (b : Bool) (ts : List Taking) → AllByRecursion (AgainIs test b) ts → count_by (is_sent test) (resends ts) ≡ cond b (length ts) 0
 resends-count test b ts all = again-from test b 0 ts all
 
-apart : (k : ℕ) (b : Bool) (n : ℕ) → is_application_command n ≡ false → is_application_command k ≡ true → (k == n) ≡ b → b ≡ false
+pub apart : (k : ℕ) (b : Bool) (n : ℕ) → is_application_command n ≡ false → is_application_command k ≡ true → (k == n) ≡ b → b ≡ false
 apart k true n not_one is e =
     let none : is_application_command k ≡ false = ap is_application_command (eqb-true k n e) ∙ not_one in
     absurd (cc)
@@ -224,7 +224,7 @@ commands-apart k is =
     let c = apart k (k == 282) 282 refl is refl in
     rw (a, b, c) refl
 
-again-test : (test : Header → Bool) → LooksAt test → (octets : List ℕ) (hop : ℕ) → SentFits octets → test (header_of (again octets hop)) ≡ test (record (header_of octets) { flags = 208 })
+pub again-test : (test : Header → Bool) → LooksAt test → (octets : List ℕ) (hop : ℕ) → SentFits octets → test (header_of (again octets hop)) ≡ test (record (header_of octets) { flags = 208 })
 again-test test looks octets hop fits =
     let h = header_of octets in
     text-test test looks (sent_again h hop) (parts_of octets).avps fits.whole.header.command

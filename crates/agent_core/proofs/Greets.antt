@@ -65,7 +65,7 @@ quiet-if : (b : Bool) (yes_act no_act : Act) → is_quiet yes_act ≡ true → i
 quiet-if true yes_act no_act e f = e
 quiet-if false yes_act no_act e f = f
 
-quiet-greeting : (said : Said) → is_quiet (greeting_said said) ≡ true
+pub quiet-greeting : (said : Said) → is_quiet (greeting_said said) ≡ true
 quiet-greeting WatchdogRequest = refl
 quiet-greeting WatchdogAnswer = refl
 quiet-greeting (DisconnectRequest cause) = refl
@@ -162,7 +162,7 @@ quiet-act l watchdog m Ends is = ap (λ p. is_quiet (on_end p causes.Ended)) is
 quiet-act l watchdog m Ticks is = quiet-tick l.phase l watchdog m is
 quiet-act l watchdog m Leaves is = ap (λ p. is_quiet (on_leave p)) is
 
-quiet-room : (spare : Bool) (act : Act) → is_quiet act ≡ true → is_quiet (if_room spare act) ≡ true
+pub quiet-room : (spare : Bool) (act : Act) → is_quiet act ≡ true → is_quiet (if_room spare act) ≡ true
 quiet-room true act e = e
 quiet-room false Nothing e = refl
 quiet-room false Serve e = refl

@@ -95,7 +95,7 @@ unfolding termination_text
 header_of-termination client kept application cause host numbers are fits =
     (application, header_of-text _ _ (request_fits 275 application numbers are (omega arith) fits))
 
-some_is : (x y : List ℕ) → Some x ≡ Some y → x ≡ y
+pub some_is : (x y : List ℕ) → Some x ≡ Some y → x ≡ y
 some_is x y is = cc
 
 accounting_follow : (kind : Kind2) (client : Client) (kept : Kept) (numbers : Numbers) (octets : List ℕ) → AreNumbers numbers

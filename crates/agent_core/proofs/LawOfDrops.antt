@@ -27,7 +27,7 @@ use Rattle.agent_events.specs.Kinds.{is_drain}
 use Rattle.agent_core.specs.Rooms.{rooms, refusal, has_spare}
 use Rattle.agent_core.specs.Requests.{request_sent, kept_of}
 use Rattle.agent_core.specs.History.{at_input, place, places, past, still, taking_of, taking_place, admitted, repeated, requested, datagram, peer, link_act, link_outputs, resends, linked, answered, heard, messaged, matches, is_number, command_of, next_numbers, outcome, outcome_outputs, outputs_after}
-use Rattle.agent_core.specs.LawsOfSends.{Quiet, IsDropped, is_datagram}
+use Rattle.agent_core.specs.LawsOfSends.{DropsAreQuiet, IsDropped, is_datagram}
 use Rattle.agent_core.proofs.Lists.{filter-same, find-same}
 use Rattle.agent_core.proofs.LawPlaces.{place-by}
 
@@ -290,7 +290,7 @@ quiet-by config history more x y e alike =
     ∙ ap (λ (p : Place). p.outputs) (place-is config (places config ps (x ∷ more)) (places config ps (y ∷ more)) e a)
     ∙ sym (ap (λ qs. (place config qs e).outputs) (places-split config [] history (y ∷ more)))
 
-pub quiet : Quiet
+pub quiet : DropsAreQuiet
 quiet config history more m one other e is too first second =
     let ps = past config history in
     quiet-by config history more (record { moment = m; input = one }) (record { moment = m; input = other }) e

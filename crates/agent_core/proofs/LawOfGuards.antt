@@ -1,7 +1,8 @@
 -- A Reply of code 2 goes out only for an answer that accepts the request.
 use Rattle.std.proofs.Common.{◌≡◌, ℕ, inl, inr, Bool, true, false, cond, List, [], ◌∷◌, ◌++◌, Option, Some, None, option_map, Result, Ok, Err, refl, sym, ◌∙◌, arith}
-use Rattle.std.specs.Prelude.{◌==◌, slice_index, option_to_list, max}
+use Rattle.std.specs.Prelude.{◌==◌, not, bit_and, slice_index, option_to_list, max}
 use Rattle.std.specs.List.{AllByRecursion}
+use Rattle.std.proofs.lemmas.Bool.{eqb-true}
 use Rattle.radius_packet.specs.declared.reasons.Reason.TheVariants as reasons
 use Rattle.radius_packet.specs.Packet.{packet_text}
 use Rattle.radius_packet.specs.Seals.{reply_text}
@@ -32,7 +33,7 @@ use Rattle.agent_events.specs.declared.events.Input.TheVariants.{Message}
 use Rattle.agent_events.specs.declared.events.Output.TheVariants.{Send, Dropped}
 use Rattle.agent_core.specs.Places.{Place, Taking, now, answer_to}
 use Rattle.agent_core.specs.History.{at_input, past, still, repeated, linked, link_output, answered, outcome, reply_outputs, next_numbers}
-use Rattle.agent_core.specs.LawsOfRequests.{Guarded, IsGuarded, IsAccepted, Accepts, come_again}
+use Rattle.agent_core.specs.LawsOfRequests.{AcceptancesAreGuarded, IsGuarded, IsAccepted, Accepts, asks_for_access, come_again}
 use Rattle.agent_core.proofs.LawOfReplies.{links-each}
 use Rattle.agent_core.proofs.LawPlaces.{place-by}
 
@@ -89,6 +90,22 @@ success-of : (service : Service) (client : Client) (kept : Kept) (header : Heade
 success-of service client kept header avps two =
     kind-success (result_code avps) (by-avps service client kept header avps (fit-code service client kept header avps two))
 
+-- and of an answer without flag E
+clear-by : (service : Service) (client : Client) (kept : Kept) (header : Header) (avps : List AvpParts) → reply_code (class_by_avps service client kept header avps) ≡ 2 → is_error header ≡ false
+clear-by service client kept header avps =
+    elim (is_error header) as (λ b. is_error header ≡ b → reply_code (class_by_avps service client kept header avps) ≡ 2 → b ≡ false) [
+      | true ↦ (λ h. rw h (λ e. absurd (omega arith)))
+      | false ↦ (λ h e. refl)
+    ] refl
+
+clear-flag : (flag : Bool) → not flag ≡ false → flag ≡ true
+clear-flag true e = refl
+clear-flag false e = absurd (cc)
+
+clear-of : (service : Service) (client : Client) (kept : Kept) (header : Header) (avps : List AvpParts) → reply_code (class_of service client kept header avps) ≡ 2 → bit_and header.flags 32 ≡ 0
+clear-of service client kept header avps two =
+    eqb-true _ _ (clear-flag (bit_and header.flags 32 == 0) (clear-by service client kept header avps (fit-code service client kept header avps two)))
+
 session-of : (service : Service) (client : Client) (kept : Kept) (header : Header) (avps : List AvpParts) → reply_code (class_of service client kept header avps) ≡ 2 → has_own_session kept.session avps ≡ true
 unfolding class_of
 session-of service client kept header avps two = grind (arith, two)
@@ -96,7 +113,13 @@ session-of service client kept header avps two = grind (arith, two)
 list-accepts : (service : Service) (client : Client) (kept : Kept) (message : MessageParts) (numbers : Numbers) (list : Result (List AvpParts) AvpFault) → read_avps message.avps ≡ list → code_in (outcome_in service client kept message.header list numbers).reply ≡ 2 → Accepts message kept.session
 list-accepts service client kept message numbers (Ok avps) read two =
     let is : reply_code (class_of service client kept message.header avps) ≡ 2 = sym (reply-code service client kept message.header avps numbers) ∙ two in
-    record { avps = avps; read = read; success = success-of service client kept message.header avps is; own = session-of service client kept message.header avps is }
+    record {
+      sound = clear-of service client kept message.header avps is;
+      avps = avps;
+      read = read;
+      success = success-of service client kept message.header avps is;
+      own = session-of service client kept message.header avps is;
+    }
 list-accepts service client kept message numbers (Err fault) read two =
     let is : ◌≡◌ {A = ℕ} 3 2 = sym (rotten-code service client kept message.header fault numbers) ∙ two in
     absurd (omega arith)
@@ -110,17 +133,17 @@ unfolding bare_reply reply_text packet_text
 if-code true client kept two = absurd (omega arith)
 if-code false client kept two = absurd (omega arith)
 
-record-accepts : (client : Client) (kept : Kept) (message : MessageParts) (numbers : Numbers) → code_in (accounting.outcome client kept message numbers).reply ≡ 2 → Accepts message kept.session
+record-unaccepted : (client : Client) (kept : Kept) (message : MessageParts) (numbers : Numbers) → code_in (accounting.outcome client kept message numbers).reply ≡ 2 → ⊥
 unfolding accounting.outcome
-record-accepts client kept message numbers two = absurd (if-code (is_accepted kept message) client kept two)
+record-unaccepted client kept message numbers two = if-code (is_accepted kept message) client kept two
 
--- a reply of code 2 accepts the request
-outcome-accepts : (kind : Kind2) (client : Client) (kept : Kept) (message : MessageParts) (numbers : Numbers) → code_in (outcome kind client kept message numbers).reply ≡ 2 → Accepts message kept.session
-outcome-accepts Access client kept message numbers two = access-accepts services.Nasreq client kept message numbers two
-outcome-accepts Eap client kept message numbers two = access-accepts services.Eap client kept message numbers two
-outcome-accepts Start client kept message numbers two = record-accepts client kept message numbers two
-outcome-accepts Interim client kept message numbers two = record-accepts client kept message numbers two
-outcome-accepts Stop client kept message numbers two = record-accepts client kept message numbers two
+-- a reply of code 2 accepts the request, which is one for access
+outcome-accepts : (kind : Kind2) (client : Client) (kept : Kept) (message : MessageParts) (numbers : Numbers) → code_in (outcome kind client kept message numbers).reply ≡ 2 → (asks_for_access kind ≡ true) × Accepts message kept.session
+outcome-accepts Access client kept message numbers two = (refl, access-accepts services.Nasreq client kept message numbers two)
+outcome-accepts Eap client kept message numbers two = (refl, access-accepts services.Eap client kept message numbers two)
+outcome-accepts Start client kept message numbers two = absurd (record-unaccepted client kept message numbers two)
+outcome-accepts Interim client kept message numbers two = absurd (record-unaccepted client kept message numbers two)
+outcome-accepts Stop client kept message numbers two = absurd (record-unaccepted client kept message numbers two)
 
 -- ---- the places
 
@@ -156,8 +179,10 @@ guarded-at config ps m input = place-by (GuardedAt config ps) config ps m input 
   matched = λ octets message comes t found.
       let o = outcome t.kept.kind t.settings t.kept message (next_numbers config ps) in
       outcome-guarded config ps (answered config ps m message (linked config ps m (Message octets) (Says (said_in message)) (Some message)) (Some t)) t o.reply o.follow refl
-      (λ two. (message, (comes.read, outcome-accepts t.kept.kind t.settings t.kept message (next_numbers config ps) two)));
+      (λ two.
+      let both = outcome-accepts t.kept.kind t.settings t.kept message (next_numbers config ps) two in
+      (both.0, (message, (comes.read, both.1))));
 })
 
-pub guarded : Guarded
+pub guarded : AcceptancesAreGuarded
 guarded config history e = guarded-at config (past config history) (max (now (past config history)) e.moment) e.input

@@ -1,5 +1,5 @@
 -- The application requests that go out.
-use Rattle.std.proofs.Common.{◌≡◌, ℕ, ◌+◌, ◌<◌, ◌≤◌, ◌^◌, Bool, true, false, cond, List, [], ◌∷◌, ◌++◌, length, filter, map, Option, Some, None, option_map, refl, sym, ◌∙◌, ap, subst, arith}
+use Rattle.std.proofs.Common.{◌≡◌, ℕ, ◌+◌, ◌*◌, ◌<◌, ◌≤◌, ◌^◌, Bool, true, false, cond, List, [], ◌∷◌, ◌++◌, length, filter, map, Option, Some, None, option_map, refl, sym, ◌∙◌, ap, subst, arith}
 use Rattle.std.specs.Prelude.{◌==◌, count_by, option_to_list, max, bit_and, bit_or, IfSome}
 use Rattle.std.specs.List.{AllByRecursion, enumerate_from}
 use Rattle.std.proofs.lemmas.List.Elements.{filter-append}
@@ -22,11 +22,11 @@ use Rattle.agent_core.specs.Settings.{names, end_number}
 use Rattle.agent_core.specs.Places.{Place, Taking, now, opens, link, waiting, used, total, serial, answer_to, header_of, is_sent, is_application_request}
 use Rattle.agent_core.specs.History.{at_input, past, repeated, taking_of, linked, link_act, link_output, link_outputs, resends, again, outcome, reply_outputs, next_numbers, peer}
 use Rattle.agent_core.specs.Machine.{kept_waiting}
-use Rattle.agent_core.specs.LawsOfSends.{Image, SendsImages, IsImageOf, IsTermination, application_sends, IsResent}
+use Rattle.agent_core.specs.LawsOfSends.{SendsAreImages, SendsImages, IsImageOf, IsTermination, application_sends, IsResent}
 use Rattle.agent_core.proofs.Counts.{count-cons, link-count, own-application, again-application}
 use Rattle.agent_core.proofs.Soundness.{SentFits}
 use Rattle.agent_core.proofs.Headers.{AreNumbers, header_of-text, header_by-counts, EndsSession, termination_header-counts}
-use Rattle.agent_core.proofs.FollowHeaders.{follow_ends_session}
+use Rattle.agent_core.proofs.FollowHeaders.{follow_ends_session, follow-ends}
 use Rattle.agent_core.proofs.HeardPlaces.{heard-resent}
 use Rattle.agent_core.proofs.TakenSteps.{sent-header}
 use Rattle.agent_core.proofs.Agreeing.{StandsAt-later, waiting-count}
@@ -40,6 +40,7 @@ use Rattle.agent_core.proofs.LawPlaces.{place-by, known}
 -- the next numbers fit, what waits can be numbered, and each that waits sent a message of an application
 pub record Ready (config : Config) (ps : List Place) (m : ℕ) : Type 0 where
   pub used : used ps + length (waiting config ps m) ≤ 2147483648
+  pub again : 2 * length (waiting config ps m) ≤ config.backlog
   pub sent : AllByRecursion (λ t. SentFits t.sent) (waiting config ps m)
 
 pub ready : (config : Config) (ps : List Place) (m : ℕ) → now ps ≤ m → Standing config ps → Ready config ps m
@@ -51,8 +52,10 @@ ready config ps m later s =
     let rooms = (IsRoomy-later S m moment s.roomy).rooms in
     let same : S.used ≡ used ps = s.stands.used in
     let room : T.used + length (kept_waiting T) ≤ 2147483648 = rooms.used in
+    let twice : 2 * length (kept_waiting T) ≤ S.config.backlog = rooms.again in
     record {
       used = subst (λ (c : Config). used ps + length (waiting c ps m) ≤ 2147483648) s.same (omega arith);
+      again = subst (λ (c : Config). 2 * length (waiting c ps m) ≤ c.backlog) s.same (omega arith);
       sent = waiting-sent config ps m s.sound;
     }
 
@@ -121,7 +124,7 @@ outcome-filter key (Some reply) None is = refl
 outcome-filter key None (Some octets) is = ap (λ b. cond b (Send octets ∷ []) []) (is octets refl)
 outcome-filter key (Some reply) (Some octets) is = ap (λ b. cond b (Send octets ∷ []) []) (is octets refl)
 
-if-some : (P : List ℕ → Type 0) (o : Option (List ℕ)) → ((x : List ℕ) → o ≡ Some x → P x) → IfSome o P
+pub if-some : (P : List ℕ → Type 0) (o : Option (List ℕ)) → ((x : List ℕ) → o ≡ Some x → P x) → IfSome o P
 if-some P None all = tt
 if-some P (Some x) all = all x refl
 
@@ -176,14 +179,14 @@ images-at config ps m input is =
             image = tt;
             again = refl;
             follow = o.follow;
-            terminates = if-some (IsTermination (Some t)) o.follow (λ more is. ap (λ (h : Header). h.command) (ends more is).1);
+            terminates = if-some (IsTermination config ps (Some t)) o.follow (λ more is. follow-ends t message (next_numbers config ps) more is);
             sends =
                 outcome-filter t.key o.reply o.follow (λ more is. let e = ends more is in ap is_application_request e.1 ∙ (termination_header-counts e.0 (next_numbers config ps)).application)
                 ∙ ap (λ ts. resends ts ++ option_to_list (option_map Send o.follow)) (sym (heard-resent config ps m octets message comes.hands));
           };
     })
 
-pub image : Image
+pub image : SendsAreImages
 image config history e within =
     let ps = past config history in
     let m = max (now ps) e.moment in

@@ -12,7 +12,7 @@ use Rattle.pending_table.specs.Table.{same_via, same_key}
 use Rattle.agent_events.specs.declared.events.Input.{Input}
 use Rattle.agent_core.specs.Places.{Place, Taking, now, takings, ends, live}
 use Rattle.agent_core.specs.History.{at_input, taking_of, past}
-use Rattle.agent_core.specs.LawsOfRequests.{Apart, ComesApart}
+use Rattle.agent_core.specs.LawsOfRequests.{RequestsOfOneKeyAreApart, ComesApart}
 use Rattle.agent_core.proofs.Lists.{AllByRecursion-weaken}
 use Rattle.agent_core.proofs.LawPlaces.{place-by}
 
@@ -62,5 +62,5 @@ apart-at config ps m input = place-by (ApartAt config ps) config ps m input (rec
   matched = λ octets message comes u found t e. absurd (cc);
 })
 
-pub apart : Apart
+pub apart : RequestsOfOneKeyAreApart
 apart config history e t is = apart-at config (past config history) (max (now (past config history)) e.moment) e.input t is

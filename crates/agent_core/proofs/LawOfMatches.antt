@@ -29,7 +29,7 @@ use Rattle.agent_events.specs.declared.events.Output.TheVariants.{Reply, Send}
 use Rattle.agent_core.specs.Places.{Event, Place, Taking, now, link, is_at, match_of, live, waiting, is_request}
 use Rattle.agent_core.specs.History.{at_input, place, past, linked, answered, heard, messaged, matches, command_of, link_act, outcome, outcome_outputs, reply_outputs, next_numbers}
 use Rattle.agent_core.specs.Rooms.{has_spare}
-use Rattle.agent_core.specs.LawsOfRequests.{Once, IsMatchedOnce, MatchesOne, Settled, IsSettled, SettlesAt, answer_outputs, is_open}
+use Rattle.agent_core.specs.LawsOfRequests.{RequestsAreMatchedOnce, IsMatchedOnce, MatchesOne, AnswersSettle, IsSettled, SettlesAt, answer_outputs, is_open}
 use Rattle.agent_core.proofs.Lists.{AllByRecursion-weaken, find-All}
 use Rattle.agent_core.proofs.Opened.{filter-true}
 use Rattle.agent_core.proofs.Numbers.{Alone, numbered, waiting-alone}
@@ -124,7 +124,7 @@ is_answer h t = h.command == command_of t.kept.kind
 matches-one : (config : Config) (ps : List Place) → Standing config ps → MatchesOne config ps
 matches-one config ps s m h = count-alone (numbered ps h.hop) (is_answer h) (waiting config ps m) (waiting-alone config ps m h.hop s.sound)
 
-pub once : Once
+pub once : RequestsAreMatchedOnce
 once config history within = (matched_once config history, matches-one config (past config history) (known config within history))
 
 -- ---- settled
@@ -224,6 +224,6 @@ settles-at config ps m octets message s read low opened =
     (AllByRecursion-weaken _ _ (λ t finds is. settles config ps m octets message read low opened t is (finds is)) (waiting config ps m)
     (finds (numbered ps message.header.hop) (is_answer message.header) (waiting config ps m) (waiting-alone config ps m message.header.hop s.sound)))
 
-pub settled : Settled
+pub settled : AnswersSettle
 settled config history m octets message within read low opened =
     settles-at config (past config history) (max (now (past config history)) m) octets message (known config within history) read low opened

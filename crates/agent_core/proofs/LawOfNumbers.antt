@@ -33,7 +33,7 @@ use Rattle.agent_core.specs.Places.{Place, Taking, now, link, begins, opens, wai
 use Rattle.agent_core.specs.History.{at_input, past, peer, repeated, taking_of, linked, link_act, link_after, link_output, link_outputs, resends, again, outcome, reply_outputs, next_numbers}
 use Rattle.agent_core.specs.Machine.{begins_by, count_of, opens_then}
 use Rattle.agent_core.specs.Standing.{StandsAt, IsRoomy}
-use Rattle.agent_core.specs.LawsOfSends.{Numbers, headers_in, headers_on_link, headers_so_far}
+use Rattle.agent_core.specs.LawsOfSends.{RequestsAreNumbered, headers_in, headers_on_link, headers_so_far}
 use Rattle.agent_core.proofs.Lists.{AllByRecursion-weaken}
 use Rattle.agent_core.proofs.Counts.{count-cons, own-application, own-base, own-first, resends-count, again-application, again-base, again-first}
 use Rattle.agent_core.proofs.Soundness.{SentFits, IsUnused}
@@ -406,7 +406,7 @@ numbered-at : (config : Config) (ps : List Place) (m : ℕ) (input : Input) → 
 numbered-at config ps m input later s before =
     numbered-on config (at_input config ps m input) ps (numbers-at config ps m input (ready config ps m later s) (unused config ps m input later s)) before
 
-pub numbers : Numbers
+pub numbers : RequestsAreNumbered
 numbers config history within =
     let all = history-by config (AllNumbered config) (record { application = tt; base = tt; first = tt })
     (λ past_events e before.

@@ -11,7 +11,7 @@ use Rattle.agent_events.specs.declared.events.Input.TheVariants.{Message}
 use Rattle.agent_events.specs.declared.events.Output.TheVariants.{Send}
 use Rattle.agent_core.specs.Places.{Place, Taking, now, link, opens, takings, rank, ends, live, match_of, waiting}
 use Rattle.agent_core.specs.History.{at_input, past, linked, answered, again, resends}
-use Rattle.agent_core.specs.LawsOfSends.{Reach, ReachesAt, SendsAgain, application_sends}
+use Rattle.agent_core.specs.LawsOfSends.{RequestsReachOverLinks, ReachesAt, SendsAgain, application_sends}
 use Rattle.agent_core.proofs.Lists.{AllByRecursion-weaken, AllByRecursion-filter}
 use Rattle.agent_core.proofs.Orders.{Ascending}
 use Rattle.agent_core.proofs.Soundness.{SentFits, TakingFits}
@@ -117,7 +117,7 @@ all-reach config ps m input later s =
     (λ t both. reaches-at config ps m input (ready config ps m later s) t both.0.sent both.1) (takings ps)
     (both-each _ _ (takings ps) s.sound.each (each-one (takings ps) s.sound.ascending))
 
-pub reach : Reach
+pub reach : RequestsReachOverLinks
 reach config history e within =
     let ps = past config history in
     (all-reach config ps (max (now ps) e.moment) e.input (omega arith) (known config within history), matched_once config history)

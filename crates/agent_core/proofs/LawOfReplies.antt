@@ -25,7 +25,7 @@ use Rattle.agent_events.specs.declared.events.Output.TheVariants.{Reply, Send, D
 use Rattle.agent_core.specs.Verdict.{Request, verdict, judged, packet_verdict, client_verdict, kind_at, code_at, key_of}
 use Rattle.agent_core.specs.Places.{Event, Place, Taking, now, takings, is_at, match_of, answer_to, reply_in, ends, live, waiting}
 use Rattle.agent_core.specs.History.{at_input, place, past, repeated, link_output, link_outputs, resends, again, reply_outputs, outcome_outputs, matches, linked, answered, taking_of, outcome, next_numbers}
-use Rattle.agent_core.specs.LawsOfRequests.{Same, OnlyToClients, IsToClient, is_from, known_by, come_again, replied, replies_in, replies_to}
+use Rattle.agent_core.specs.LawsOfRequests.{RepliesAreTheSame, RepliesGoToClients, IsToClient, is_from, known_by, come_again, replied, replies_in, replies_to}
 use Rattle.agent_core.proofs.Lists.{AllByRecursion-weaken, AllByRecursion-filter, AllByRecursion-push, find-All}
 use Rattle.agent_core.proofs.LawOfKeys.{same_via-refl}
 use Rattle.agent_core.proofs.LawOfMatches.{MatchesNew, matches-new}
@@ -45,11 +45,11 @@ sends-each : (P : Output → Type 0) → ((octets : List ℕ) → P (Send octets
 sends-each P sends None = tt
 sends-each P sends (Some octets) = (sends octets, tt)
 
-closes-each : (P : Output → Type 0) → ((cause : LinkCause) → P (Closed cause)) → (o : Option LinkCause) → AllByRecursion P (option_to_list (option_map Closed o))
+pub closes-each : (P : Output → Type 0) → ((cause : LinkCause) → P (Closed cause)) → (o : Option LinkCause) → AllByRecursion P (option_to_list (option_map Closed o))
 closes-each P closes None = tt
 closes-each P closes (Some cause) = (closes cause, tt)
 
-drops-each : (P : Output → Type 0) → ((reason : Reason) → P (Dropped reason)) → (o : Option Reason) → AllByRecursion P (option_to_list (option_map Dropped o))
+pub drops-each : (P : Output → Type 0) → ((reason : Reason) → P (Dropped reason)) → (o : Option Reason) → AllByRecursion P (option_to_list (option_map Dropped o))
 drops-each P drops None = tt
 drops-each P drops (Some reason) = (drops reason, tt)
 
@@ -136,7 +136,7 @@ same-on config p ps anew here before n =
     ] refl)
     (AllByRecursion-weaken (Answered n ps) (Answered n (p ∷ ps)) (λ octets was. not-both p ps n (Some octets) anew was) (replies_to config n ps) (before n))
 
-pub same : Same
+pub same : RepliesAreTheSame
 unfolding AllSame
 same config history n = history-by config (AllSame config) (λ k. tt)
     (λ past_events e before.
@@ -221,7 +221,8 @@ any-each r (t ∷ ts) = (
 )
 
 -- where its Replies go
-record GoesBack (config : Config) (ts : List Taking) (t : Taking) : Type 0 where
+record Returns (config : Config) (ts : List Taking) (t : Taking) : Type 0 where
+  pub own : (octets : List ℕ) → is_from (Reply t.key.via t.key.address t.key.port octets) t ≡ true
   pub from : (octets : List ℕ) → list_any (is_from (Reply t.key.via t.key.address t.key.port octets)) ts ≡ true
   pub client : IsClients config t
 
@@ -239,43 +240,51 @@ each-any ts (u ∷ us) some = (
   each-any ts us (λ r. (some r).1),
 )
 
-go-back : (config : Config) (ts : List Taking) → AllByRecursion (IsClients config) ts → AllByRecursion (GoesBack config ts) ts
+go-back : (config : Config) (ts : List Taking) → AllByRecursion (IsClients config) ts → AllByRecursion (Returns config ts) ts
 go-back config ts all =
-    AllByRecursion-weaken _ _ (λ t both. record { from = both.0; client = both.1 }) ts
+    AllByRecursion-weaken _ _ (λ t both. record { own = is_from-own t; from = both.0; client = both.1 }) ts
     (both-each _ (IsClients config) ts (each-any ts ts (λ r. any-each r ts)) all)
 
-repeated-goes : (config : Config) (ts : List Taking) (t : Taking) (o : Option (Option (List ℕ))) → GoesBack config ts t → AllByRecursion (IsToClient config ts) (repeated t.key o)
-repeated-goes config ts t None goes = (tt, tt)
-repeated-goes config ts t (Some None) goes = (tt, tt)
-repeated-goes config ts t (Some (Some octets)) goes = ((goes.from octets, goes.client), tt)
+goes : (config : Config) (ts : List Taking) (t : Taking) → Returns config ts t → (octets : List ℕ) → IsToClient config ts (Some t) (Reply t.key.via t.key.address t.key.port octets)
+goes config ts t back octets = (back.own octets, record { taken = back.from octets; client = back.client })
 
-outcome-goes : (config : Config) (ts : List Taking) (t : Taking) (reply follow : Option (List ℕ)) → GoesBack config ts t → AllByRecursion (IsToClient config ts) (reply_outputs t.key reply ++ option_to_list (option_map Send follow))
-outcome-goes config ts t None None goes = tt
-outcome-goes config ts t None (Some more) goes = (tt, tt)
-outcome-goes config ts t (Some octets) None goes = ((goes.from octets, goes.client), tt)
-outcome-goes config ts t (Some octets) (Some more) goes = ((goes.from octets, goes.client), (tt, tt))
+repeated-goes : (config : Config) (ts : List Taking) (t : Taking) (o : Option (Option (List ℕ))) → Returns config ts t → AllByRecursion (IsToClient config ts (Some t)) (repeated t.key o)
+repeated-goes config ts t None back = (tt, tt)
+repeated-goes config ts t (Some None) back = (tt, tt)
+repeated-goes config ts t (Some (Some octets)) back = (goes config ts t back octets, tt)
 
-unmatched-goes : (config : Config) (ts : List Taking) (b : Bool) → AllByRecursion (IsToClient config ts) (cond b [] (Dropped reasons.Unmatched ∷ []))
-unmatched-goes config ts true = tt
-unmatched-goes config ts false = (tt, tt)
+outcome-goes : (config : Config) (ts : List Taking) (t : Taking) (reply follow : Option (List ℕ)) → Returns config ts t → AllByRecursion (IsToClient config ts (Some t)) (reply_outputs t.key reply ++ option_to_list (option_map Send follow))
+outcome-goes config ts t None None back = tt
+outcome-goes config ts t None (Some more) back = (tt, tt)
+outcome-goes config ts t (Some octets) None back = (goes config ts t back octets, tt)
+outcome-goes config ts t (Some octets) (Some more) back = (goes config ts t back octets, (tt, tt))
 
-to-clients : (config : Config) (ps : List Place) (m : ℕ) (input : Input) → FromClients config ps → AllByRecursion (IsToClient config (takings ps)) (at_input config ps m input).outputs
+unmatched-goes : (config : Config) (ts : List Taking) (asked : Option Taking) (b : Bool) → AllByRecursion (IsToClient config ts asked) (cond b [] (Dropped reasons.Unmatched ∷ []))
+unmatched-goes config ts asked true = tt
+unmatched-goes config ts asked false = (tt, tt)
+
+abbrev AreToClients : Config → List Place → Place → Type 0
+AreToClients config ps p = AllByRecursion (IsToClient config (takings ps) (replied config ps p)) p.outputs
+
+to-clients : (config : Config) (ps : List Place) (m : ℕ) (input : Input) → FromClients config ps → AreToClients config ps (at_input config ps m input)
 to-clients config ps m input from =
     let ts = takings ps in
-    let goes = go-back config ts from in
-    place-by (λ p. AllByRecursion (IsToClient config (takings ps)) p.outputs) config ps m input (record {
+    let back = go-back config ts from in
+    place-by (AreToClients config ps) config ps m input (record {
       drained = λ quiet. tt;
       dropped = λ quiet reason. (tt, tt);
-      repeats = λ quiet t comes. repeated-goes config ts t (answer_to t.place ps) (again-each (GoesBack config ts) config ps m input t comes goes);
+      repeats = λ quiet t comes.
+          subst (λ (o : Option Taking). AllByRecursion (IsToClient config ts o) (repeated t.key (answer_to t.place ps))) (sym comes)
+          (repeated-goes config ts t (answer_to t.place ps) (again-each (Returns config ts) config ps m input t comes back));
       takes = λ quiet request takes. (tt, tt);
       links = λ apart event message begun.
-          links-each (IsToClient config ts) (λ octets. tt) (λ cause. tt) (λ reason. tt) (link_output config ps m input event message) (linked config ps m input event message).resent;
-      unmatched = λ octets message comes. unmatched-goes config ts (message.header.command == 275);
+          links-each (IsToClient config ts (come_again config ps m input)) (λ octets. tt) (λ cause. tt) (λ reason. tt) (link_output config ps m input event message) (linked config ps m input event message).resent;
+      unmatched = λ octets message comes. unmatched-goes config ts None (message.header.command == 275);
       matched = λ octets message comes t found.
           let o = outcome t.kept.kind t.settings t.kept message (next_numbers config ps) in
-          outcome-goes config ts t o.reply o.follow (waiting-each (GoesBack config ts) config ps m (matches ps message.header) t found goes);
+          outcome-goes config ts t o.reply o.follow (waiting-each (Returns config ts) config ps m (matches ps message.header) t found back);
     })
 
-pub only_to_clients : OnlyToClients
+pub only_to_clients : RepliesGoToClients
 only_to_clients config history e =
     to-clients config (past config history) (max (now (past config history)) e.moment) e.input (from_clients config history)

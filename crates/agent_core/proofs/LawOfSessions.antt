@@ -16,7 +16,7 @@ use Rattle.agent_core.specs.Verdict.{Request}
 use Rattle.agent_core.specs.Places.{Event, Place, Taking, now, takings, serial}
 use Rattle.agent_core.specs.Requests.{is_fresh, route_of, access_route, accounting_route, fresh_route, carried_route}
 use Rattle.agent_core.specs.History.{at_input, past, taking_of, taking_place}
-use Rattle.agent_core.specs.LawsOfRequests.{Fresh}
+use Rattle.agent_core.specs.LawsOfRequests.{FreshSessionsDiffer}
 use Rattle.agent_core.proofs.Lists.{AllByRecursion-weaken, AllByRecursion-push}
 use Rattle.agent_core.proofs.LawPlaces.{place-by, history-by, known}
 
@@ -120,7 +120,7 @@ fresh-by config ps m input t small all taken fresh =
     AllByRecursion-weaken (Counted config (serial ps)) (λ u. u.fresh ≡ true → u.kept.session ≢ t.kept.session)
     (λ u was begins. differ config (serial ps) t u small (was begins) is) (takings ps) all
 
-pub fresh : Fresh
+pub fresh : FreshSessionsDiffer
 fresh config history e t within taken begins =
     let ps = past config history in
     let few = (known config within history).sound.counted in

@@ -65,3 +65,10 @@ pub mod LawOfNumbers
 pub mod LawOfDrops
 pub mod LawOfGuards
 pub mod LawOfReach
+pub mod LinkKinds
+pub mod LinkActs
+pub mod LawOfLinks
+pub mod LawOfAnswers
+pub mod LawOfWatches
+pub mod Granting
+pub mod LawOfSilence

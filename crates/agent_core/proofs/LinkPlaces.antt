@@ -35,7 +35,7 @@ abbrev acts : Config → List Place → ℕ → Input → LinkEvent → Bool
 acts config ps m input event = asks (link_act config ps m input event)
 
 -- how many messages that meet the test the place sends
-linked-sends : (config : Config) (ps : List Place) (m : ℕ) (input : Input) (event : LinkEvent) (message : Option MessageParts) (test : Header → Bool) (b : Bool) (n : ℕ) → count-sent test (link_output config ps m input event message).send ≡ n → AllByRecursion (AgainIs test b) (linked config ps m input event message).resent → sends test (linked config ps m input event message) ≡ n + cond b (length (linked config ps m input event message).resent) 0
+pub linked-sends : (config : Config) (ps : List Place) (m : ℕ) (input : Input) (event : LinkEvent) (message : Option MessageParts) (test : Header → Bool) (b : Bool) (n : ℕ) → count-sent test (link_output config ps m input event message).send ≡ n → AllByRecursion (AgainIs test b) (linked config ps m input event message).resent → sends test (linked config ps m input event message) ≡ n + cond b (length (linked config ps m input event message).resent) 0
 linked-sends config ps m input event message test b n own all =
     let o = link_output config ps m input event message in
     let rs = (linked config ps m input event message).resent in

@@ -2,10 +2,12 @@
 use Rattle.std.proofs.Common.{◌≡◌, ◌≢◌, ℕ, ◌+◌, ◌<◌, Bool, true, false, cond, ◌&&◌, not, [], Option, Some, None, refl, sym, ◌∙◌, ap, subst, arith}
 use Rattle.radius_packet.specs.declared.reasons.Reason.TheVariants.{WrongPhase}
 use Rattle.diameter_message.specs.Message.{MessageParts}
+use Rattle.diameter_message.specs.Results.{is_success}
 use Rattle.pending_table.specs.declared.entry.Entry.{Entry}
 use Rattle.peer_machine.specs.declared.Phase.{Phase}
 use Rattle.peer_machine.specs.declared.Phase.TheVariants.{Closed, Greeting, Serving, Closing}
 use Rattle.peer_machine.specs.declared.LinkCause.{LinkCause}
+use Rattle.peer_machine.specs.declared.LinkCause.TheVariants.{Refused}
 use Rattle.peer_machine.specs.declared.words.LinkState.{LinkState}
 use Rattle.peer_machine.specs.declared.words.BaseRequest.TheVariants.{CapabilitiesExchange, DeviceWatchdog, DisconnectPeer}
 use Rattle.peer_machine.specs.declared.words.Said.{Said}
@@ -14,9 +16,10 @@ use Rattle.peer_machine.specs.declared.words.Event.{Event as LinkEvent}
 use Rattle.peer_machine.specs.declared.words.Event.TheVariants.{Opens, Serves, Says, Breaks, Ends, Ticks, Leaves}
 use Rattle.peer_machine.specs.declared.words.Act.{Act}
 use Rattle.peer_machine.specs.declared.words.Act.TheVariants.{Nothing, Serve, Discard, Pass, Close, Request, Answer, AnswerAndClose}
-use Rattle.peer_machine.specs.Rules.{act_on, on_end, on_said, open_said, closing_said, on_tick, on_leave, is_past, serving_tick, if_room, may_begin, begun, heard_at, noted, after}
+use Rattle.peer_machine.specs.Rules.{act_on, on_end, on_said, open_said, greeting_said, closing_said, on_tick, on_leave, is_past, serving_tick, if_room, may_begin, begun, heard_at, noted, after}
 use Rattle.peer_machine.specs.Step.{output_of, sent}
 use Rattle.agent_core.specs.declared.ledger.Ledger.{Ledger}
+use Rattle.agent_core.specs.Links.{is_grant}
 use Rattle.agent_core.specs.Settings.{end_number}
 use Rattle.agent_core.specs.Places.{opens, is_serving}
 use Rattle.agent_core.specs.History.{link_outputs}
@@ -137,9 +140,25 @@ closing-serves-not ApplicationAnswer e = absurd (cc)
 closing-serves-not (CapabilitiesAnswer result) e = absurd (cc)
 closing-serves-not OtherAnswer e = absurd (cc)
 
+serves-if : (b : Bool) (cause : LinkCause) → cond b Serve (Close cause) ≡ Serve → b ≡ true
+serves-if true cause e = refl
+serves-if false cause e = absurd (cc)
+
+serves-granted : (said : Said) → greeting_said said ≡ Serve → is_grant said ≡ true
+serves-granted WatchdogRequest e = absurd (cc)
+serves-granted WatchdogAnswer e = absurd (cc)
+serves-granted (DisconnectRequest cause) e = absurd (cc)
+serves-granted DisconnectAnswer e = absurd (cc)
+serves-granted SessionRequest e = absurd (cc)
+serves-granted CapabilitiesRequest e = absurd (cc)
+serves-granted OtherRequest e = absurd (cc)
+serves-granted ApplicationAnswer e = absurd (cc)
+serves-granted (CapabilitiesAnswer result) e = serves-if (is_success result) (Refused result) e
+serves-granted OtherAnswer e = absurd (cc)
+
 said-opens : (l : LinkState) (m : ℕ) (said : Said) (phase : Phase) → l.phase ≡ phase → on_said phase said ≡ Serve → Opening l m (Says said)
 said-opens l m said Closed is e = absurd (cc)
-said-opens l m said Greeting is e = Greeted (ap (λ p. may_open p (Says said)) is) is (heard-number l.phase l m)
+said-opens l m said Greeting is e = Greeted (ap (λ p. may_open p (Says said)) is ∙ serves-granted said e) is (heard-number l.phase l m)
 said-opens l m said Serving is e = absurd (open-serves-not said e)
 said-opens l m said Closing is e = absurd (closing-serves-not said e)
 

@@ -3,6 +3,11 @@ use Rattle.std.specs.Prelude.{◌≡◌, ℕ, ◌+◌, ◌*◌, ◌%◌, ◌≤�
 use Rattle.std.specs.List.{AllByRecursion as Each, enumerate_from}
 use Rattle.diameter_message.specs.declared.header.Header.{Header}
 use Rattle.diameter_message.specs.Message.{parts_of}
+use Rattle.session_carrier.specs.declared.kept.Kind2.{Kind2}
+use Rattle.session_carrier.specs.declared.kept.Kind2.TheVariants.{Access, Eap}
+use Rattle.session_carrier.specs.declared.kept.Kept.{Kept}
+use Rattle.session_carrier.specs.declared.kept.Numbers.{Numbers}
+use Rattle.translation.specs.Termination.{termination_text}
 use Rattle.agent_settings.specs.declared.config.Config.{Config}
 use Rattle.agent_settings.specs.Config.{InLimits}
 use Rattle.radius_packet.specs.declared.reasons.Reason.{Reason}
@@ -17,7 +22,7 @@ use Rattle.agent_core.specs.Requests.{request_sent}
 use Rattle.agent_core.specs.History.{place, past, resends, next_numbers, outputs_after}
 use Rattle.agent_core.specs.LawsOfRequests.{IsMatchedOnce}
 
--- ---- Rooms
+-- ---- room is left
 
 -- what waits can be sent again, and each that waits can be followed by one more request
 pub record LeavesRoom (config : Config) (ps : List Place) : Type 0 where
@@ -28,7 +33,7 @@ pub record LeavesRoom (config : Config) (ps : List Place) : Type 0 where
 abbrev pub RoomIsLeft : Type 0
 RoomIsLeft = (config : Config) (history : List Event) → InLimits config → LeavesRoom config (past config history)
 
--- ---- Few
+-- ---- outputs are few
 
 -- how many can be sent again: all that wait, where the link doesn't serve yet
 abbrev pub most_resent : Config → List Place → ℕ → ℕ
@@ -39,7 +44,7 @@ abbrev pub OutputsAreFew : Type 0
 OutputsAreFew = (config : Config) (history : List Event) (e : Event)
     → length (outputs_after config history e) ≤ 3 + most_resent config (past config history) (max (now (past config history)) e.moment)
 
--- ---- Image
+-- ---- sends are images
 
 -- the application requests that go out at a place, in order
 abbrev pub application_sends : Place → List Output
@@ -55,10 +60,26 @@ abbrev pub taken_sends : Option Taking → List Output
 taken_sends None = []
 taken_sends (Some t) = Send t.sent ∷ []
 
--- a further request goes out only where a request is matched, and is a Session-Termination-Request
-abbrev pub IsTermination : Option Taking → List ℕ → Type 0
-IsTermination None octets = ⊥
-IsTermination (Some t) octets = (header_of octets).command ≡ 275
+-- the application of the request that ends a session: Diameter EAP's or NASREQ's (RFC 4072; RFC 4005)
+abbrev pub end_application : Kind2 → ℕ
+end_application Eap = 5
+end_application kind = 1
+
+-- its Termination-Cause: DIAMETER_BAD_ANSWER, or what the client's Stop says (RFC 6733, section 8.15)
+abbrev pub end_cause : Kind2 → Kept → ℕ
+end_cause Access kept = 3
+end_cause Eap kept = 3
+end_cause kind kept = kept.cause
+
+-- the Session-Termination-Request of a request: for its client, its session and its realm, with these numbers
+pub record EndsSessionOf (t : Taking) (numbers : Numbers) (octets : List ℕ) : Type 0 where
+  pub host : Option (List ℕ)
+  pub text : octets ≡ termination_text t.settings t.kept (end_application t.kept.kind) (end_cause t.kept.kind t.kept) host numbers
+
+-- a further request goes out only where a request is matched, and ends the session of this one, with the next numbers
+abbrev pub IsTermination : Config → List Place → Option Taking → List ℕ → Type 0
+IsTermination config ps None octets = ⊥
+IsTermination config ps (Some t) octets = EndsSessionOf t (next_numbers config ps) octets
 
 -- The application requests of a place are: the image of what is taken up; all that wait, each with flag T and its number as hop, where the
 -- link opens; and at most one Session-Termination-Request where one is matched.
@@ -66,14 +87,14 @@ pub record SendsImages (config : Config) (ps : List Place) (p : Place) : Type 0 
   pub image : IfSome p.taken (IsImageOf config ps p.input)
   pub again : p.resent ≡ (if opens (link ps).phase p.link.phase then waiting config ps p.moment else [])
   pub follow : Option (List ℕ)
-  pub terminates : IfSome follow (IsTermination p.matched)
+  pub terminates : IfSome follow (IsTermination config ps p.matched)
   pub sends : application_sends p ≡ taken_sends p.taken ++ resends p.resent ++ option_to_list (option_map Send follow)
 
-abbrev pub Image : Type 0
-Image = (config : Config) (history : List Event) (e : Event) → InLimits config
+abbrev pub SendsAreImages : Type 0
+SendsAreImages = (config : Config) (history : List Event) (e : Event) → InLimits config
     → SendsImages config (past config history) (place config (past config history) e)
 
--- ---- Numbers
+-- ---- requests are numbered
 
 -- the headers of what is sent at a place and meets the test, in order
 abbrev pub headers_in : (Header → Bool) → List Output → List Header
@@ -98,10 +119,10 @@ pub record Numbered (config : Config) (ps : List Place) : Type 0 where
   pub first : Each (λ k. k.1.end ≡ end_number config k.0) (enumerate_from 0 (headers_so_far is_first_request ps))
   pub few : length (headers_on_link is_application_request ps) ≤ 2147483648
 
-abbrev pub Numbers : Type 0
-Numbers = (config : Config) (history : List Event) → InLimits config → Numbered config (past config history)
+abbrev pub RequestsAreNumbered : Type 0
+RequestsAreNumbered = (config : Config) (history : List Event) → InLimits config → Numbered config (past config history)
 
--- ---- Reach
+-- ---- requests reach over links
 
 -- with the same End-to-End Identifier and the same AVPs
 pub record IsCopy (first other : List ℕ) : Type 0 where
@@ -122,11 +143,11 @@ abbrev pub ReachesAt : Place → Taking → Type 0
 ReachesAt p t = IfSome (rank t.place 0 p.resent) (SendsAgain p t)
 
 -- all Sends of one request are the same but for flag T and the hop, and at most one place over all links matches it
-abbrev pub Reach : Type 0
-Reach = (config : Config) (history : List Event) (e : Event) → InLimits config
+abbrev pub RequestsReachOverLinks : Type 0
+RequestsReachOverLinks = (config : Config) (history : List Event) (e : Event) → InLimits config
     → Each (ReachesAt (place config (past config history) e)) (takings (past config history)) × IsMatchedOnce (past config history)
 
--- ---- Quiet
+-- ---- drops are quiet
 
 abbrev pub is_datagram : Input → Bool
 is_datagram (Datagram via address port octets) = true
@@ -136,8 +157,8 @@ abbrev pub IsDropped : List Output → Type 0
 IsDropped outputs = (reason : Reason) × (outputs ≡ Dropped reason ∷ [])
 
 -- datagrams that are dropped, whatever they are, leave all that comes later as it is
-abbrev pub Quiet : Type 0
-Quiet = (config : Config) (history more : List Event) (m : ℕ) (one other : Input) (e : Event)
+abbrev pub DropsAreQuiet : Type 0
+DropsAreQuiet = (config : Config) (history more : List Event) (m : ℕ) (one other : Input) (e : Event)
     → is_datagram one ≡ true → is_datagram other ≡ true
     → IsDropped (outputs_after config history (record { moment = m; input = one }))
     → IsDropped (outputs_after config history (record { moment = m; input = other }))

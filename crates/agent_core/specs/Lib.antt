@@ -16,3 +16,4 @@ pub mod Promise
 pub mod Laws
 pub mod LawsOfRequests
 pub mod LawsOfSends
+pub mod LawsOfLinks

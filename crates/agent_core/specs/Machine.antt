@@ -30,6 +30,7 @@ use Rattle.agent_events.specs.declared.events.Input.TheVariants.{Datagram, Up, R
 use Rattle.agent_events.specs.declared.events.Output.{Output}
 use Rattle.agent_events.specs.declared.events.Output.TheVariants.{Reply, Send, Dropped}
 use Rattle.agent_core.specs.declared.ledger.Ledger.{Ledger}
+use Rattle.agent_core.specs.Links.{is_grant}
 use Rattle.agent_core.specs.Settings.{numbers_of, end_number}
 use Rattle.agent_core.specs.Verdict.{Request, verdict}
 use Rattle.agent_core.specs.Places.{opens}
@@ -115,12 +116,6 @@ begins_by l Opens = may_begin l.phase l.number
 begins_by l Serves = may_begin l.phase l.number
 begins_by l event = false
 
--- the same of an input
-abbrev pub begins_on : LinkState → Input → Bool
-begins_on l Up = may_begin l.phase l.number
-begins_on l Ready = may_begin l.phase l.number
-begins_on l input = false
-
 -- a count of the present link, which a new link begins anew
 abbrev pub count_before : Ledger → LinkEvent → ℕ → ℕ
 count_before S event n = if begins_by S.peer.link event then 0 else n
@@ -143,13 +138,13 @@ output_for S event message =
     (sent S.peer.names (link_at S.peer S.moment event) (end_number S.config S.total) message (act_for S event))
     (act_for S event)
 
--- whether the link opens; only these two inputs can open one
+-- whether the link opens; only a Ready and an answer of success to its capabilities can open one
 abbrev pub opens_then : Ledger → LinkEvent → Bool
 opens_then S event = opens S.peer.link.phase (link_then S event).phase
 
 abbrev pub may_open : Phase → LinkEvent → Bool
 may_open Closed Serves = true
-may_open Greeting (Says said) = true
+may_open Greeting (Says said) = is_grant said
 may_open phase event = false
 
 -- what the k-th of the waiting ones sends again

@@ -6,7 +6,6 @@ ghost use Rattle.pending_table.specs.Table as table;
 ghost use Rattle.agent_core.specs.Places.{Event};
 ghost use Rattle.agent_core.specs.Places as places;
 ghost use Rattle.agent_core.specs.History.{outputs_after, past};
-ghost use Rattle.agent_core.specs.Machine as machine;
 ghost use Rattle.agent_core.specs.Standing.{StandsFor};
 ghost use Rattle.agent_core.specs.Promise.{AreBytes, IsReal};
 
@@ -105,7 +104,6 @@ impl Core {
 
     /// Whether this input begins a link: an Up or a Ready, while the link is closed and fewer than 2^64 - 1 began.
     pub fn begins(&self, input: &Input) -> bool
-        ensures kept { result ≡ machine.begins_on self.now.peer.link input.now }
         ensures rule { (H : List Event) → StandsFor self.now H → result ≡ places.begins (past self.now.config H) input.now }
     {
         matches!(input, Input::Up | Input::Ready) && self.ledger().may_begin()

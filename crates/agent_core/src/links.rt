@@ -1,19 +1,30 @@
 //! What an input of the link leads to. Memory is taken before the link's step, and nothing behind it is refused.
 
-ghost use Rattle.std.specs.Prelude.{◌≡◌, ◌≢◌, ◌+◌, ◌%◌, ◌≤◌, [], ◌++◌, All, IfOk, OnOk, OnErr, is_some, length, map, option_to_list, vec_len, vec_capacity, if◌then◌else◌};
+ghost use Rattle.std.specs.Prelude.{◌≡◌, ◌≢◌, ◌==◌, ◌&&◌, ◌+◌, ◌%◌, ◌≤◌, nat_lt, [], ◌++◌, All, IfOk, OnOk, OnErr, is_some, length, map, option_to_list, vec_len, vec_capacity, if◌then◌else◌};
+ghost use Rattle.diameter_avp.specs.Avps.{read_avps};
+ghost use Rattle.diameter_message.specs.Results.{is_success, result_in};
+ghost use Rattle.diameter_message.specs.View.{message_view};
 ghost use Rattle.pending_table.specs.Table as table;
+ghost use Rattle.peer_machine.specs.Reading.{said_in};
 ghost use Rattle.peer_machine.specs.Rules as rules;
 ghost use Rattle.peer_machine.specs.Step.{HasCommand, event_of, message_in};
 ghost use Rattle.agent_core.specs.History as history;
+ghost use Rattle.agent_core.specs.Links as known;
 ghost use Rattle.agent_core.specs.Places as places;
 ghost use Rattle.agent_core.specs.Machine as machine;
 ghost use Rattle.agent_core.specs.Standing.{IsSteady};
 
 use crate::ledger::Ledger;
 use agent_events::{Output, Outputs};
+use diameter_message::command_codes::CAPABILITIES_EXCHANGE;
+use diameter_message::command_flags::REQUEST;
+use diameter_message::{Header, Message};
 use peer_machine::{PeerInput, PeerOutput, Phase};
 use std::alloc::Global;
 use wire_core::NoMemory;
+
+/// The hop of the Capabilities-Exchange-Request of each link (profile).
+const FIRST_HOP: u32 = 0x8000_0000;
 
 /// What the link itself says to one input: a message, that it is closed, and that nothing is done.
 const LINK_OUTPUTS: usize = 3;
@@ -59,6 +70,23 @@ fn opens(before: Phase, after: Phase) -> bool
     !matches!(before, Phase::Serving) && matches!(after, Phase::Serving)
 }
 
+/// Whether this header and these AVPs are those of an answer of success to a link's Capabilities-Exchange-Request.
+fn has_grant(header: &Header, avps: &[u8]) -> bool
+    ensures { result ≡ (nat_lt header.now.flags 128 && (header.now.command == 257 && header.now.hop == 2147483648)
+        && is_success (result_in (read_avps avps.now))) }
+{
+    header.flags < REQUEST
+        && (header.command == CAPABILITIES_EXCHANGE && header.hop == FIRST_HOP)
+        && diameter_message::is_success(diameter_message::result_code(avps))
+}
+
+/// Whether this is an answer of success to the link's Capabilities-Exchange-Request.
+fn is_grant(message: &Message<'_>) -> bool
+    ensures { result ≡ known.is_grant (said_in (message_view message.now)) }
+{
+    has_grant(&message.header, message.avps)
+}
+
 impl Ledger {
     /// Whether a link may begin.
     pub(crate) fn may_begin(&self) -> bool
@@ -90,13 +118,21 @@ impl Ledger {
         (outbox as u64 + waiting as u64) < self.config.backlog as u64 + 64
     }
 
-    /// Whether this input may open the link.
+    /// Whether this input opens the link. So nothing is copied that isn't sent.
     fn may_open(&self, input: PeerInput<'_>) -> bool
         ensures { result ≡ machine.may_open self.now.peer.link.phase (event_of input.entry) }
     {
         match self.peer.phase() {
             Phase::Closed => matches!(input, PeerInput::Ready),
-            Phase::Greeting => matches!(input, PeerInput::Message(_)),
+            Phase::Greeting => match input {
+                PeerInput::Message(message) => is_grant(message),
+                PeerInput::Up
+                | PeerInput::Ready
+                | PeerInput::Broken(_)
+                | PeerInput::Down
+                | PeerInput::Tick
+                | PeerInput::Leave => false,
+            },
             Phase::Serving | Phase::Closing => false,
         }
     }
@@ -116,7 +152,7 @@ impl Ledger {
         Ok(outputs)
     }
 
-    /// The same where the link may open, else nothing.
+    /// The same where the link opens, else nothing.
     fn resends(&self, alloc: Global, input: PeerInput<'_>) -> Result<Outputs, NoMemory>
         requires { IsSteady self.now }
         ensures { IfOk result (λ o. o ≡ (if machine.may_open self.now.peer.link.phase (event_of input.entry)

@@ -1,5 +1,5 @@
 -- What a run was, once all workers are done.
-use Rattle.std.proofs.Common.{◌≡◌, ◌≢◌, ℕ, zero, suc, ◌+◌, ◌-◌, ◌^◌, ◌<◌, ◌≤◌, ◌==◌, inl, inr, min, Bool, false, cond, ◌||◌, List, [], ◌∷◌, ◌++◌, length, Option, Some, Ok, refl, sym, ap, ◌∙◌, subst, append_assoc, eq-eqb, arith}
+use Rattle.std.proofs.Common.{◌≡◌, ◌≢◌, ℕ, zero, suc, ◌+◌, ◌-◌, ◌^◌, ◌<◌, ◌≤◌, ◌==◌, inl, inr, min, Bool, false, cond, ◌||◌, List, [], ◌∷◌, ◌++◌, length, Option, Some, None, IfSome, Ok, refl, sym, ap, ◌∙◌, subst, append_assoc, eq-eqb, arith}
 use Rattle.std.specs.List.{All}
 use Rattle.std.proofs.lemmas.List.Elements.{All-head}
 use Rattle.std.proofs.lemmas.List.Sums.{sum_by-append}
@@ -32,7 +32,7 @@ use Rattle.server_workers.specs.declared.workers.Worker.TheVariants as worker
 use Rattle.agent_server.specs.Desks.{HasRead, StandsBy}
 use Rattle.server_workers.specs.Entries.{RunTurn, is_entry_of, is_tick, replies, replies_by, ticks}
 use Rattle.server_workers.specs.LinkReading.{LinkMayTake}
-use Rattle.server_workers.specs.Running.{Ends, LateDrainsAreEmpty, RoseBy, RunOver}
+use Rattle.server_workers.specs.Running.{Ends, Keeps, LateDrainsAreEmpty, RoseBy, RunOver, StopsFor, counted}
 use Rattle.agent_server.specs.Server.{Served, status_given}
 use Rattle.server_workers.specs.SocketReading.{AddsAtLeast, ReadsSocket, ServedSocket, SocketMayTake}
 use Rattle.server_workers.specs.Segments.{ServerTurn, is_beginning}
@@ -193,7 +193,7 @@ module _ {C D I O : Type 0} (readings : C → Option (List ℕ)) (told : D → S
       (twins : Twins D) (past : Past I O) (auth_back acct_back : SocketBack C D) (desk : AgentDesk C) (last : DeskEnd C) (trail : Trail C D I O) (status : Status)
       → AllDone readings told hears speaks base dials dials' dials'' starts starts' auth acct k k' end twins past auth_back acct_back
       → Closes base end k' m twins past auth_back acct_back desk last trail status
-      → Served readings told hears speaks base.config base.until base.before auth acct (told auth_back.socket) (told acct_back.socket) dials dials'' (Rose starts starts')
+      → Served readings told hears speaks base.config base.until base.before auth acct (told auth_back.socket) (told acct_back.socket) dials dials'' starts starts'
       last.clock trail status
   all-served base dials dials' dials'' starts starts' auth acct k k' m end twins past auth_back acct_back desk last trail status done closes =
       let ends = done.ends in
@@ -220,8 +220,8 @@ module _ {C D I O : Type 0} (readings : C → Option (List ℕ)) (told : D → S
       let failed : Bool = auth_back.failed || acct_back.failed in
       let status_is : status ≡ status_given end failed last.closed (length trail.links) =
       closes.status_is ∙ ap (λ (ps : List (Pair I O)). status_given end failed last.closed (length ps)) (sym closes.links) in
-      let finals = final hears speaks base.config base.until end dials''.row (Rose starts starts') trail.links ts ends.out ends.retries auth (told auth_back.socket) acct
-      (told acct_back.socket) a.reads.out c.reads.out last.closed failed status stands.run numbered over auth_served acct_served
+      let finals = final hears speaks base.config base.until end dials''.row (Rose starts starts') starts starts' trail.links ts ends.out ends.retries auth (told auth_back.socket) acct
+      (told acct_back.socket) a.reads.out c.reads.out last.closed failed status stands.run numbered over done.stops auth_served acct_served
       (ap (λ b. b || acct_back.failed) a.reads.fault ∙ ap (λ b. ((told auth_back.socket).row == 16) || b) c.reads.fault)
       (ap (λ (e : DeskEnd C). e.closed) closes.last_is ∙ stands.closed) status_is in
       record {
@@ -269,16 +269,33 @@ module _ {C D : Type 0} (told : D → Socket) where
       (starts middle starts' : ℕ) (auth acct : Socket) (k k' : Known (AgentDesk C) Input Heard) (end : RunEnd) (twins : Twins D) (past : Past I O)
       (auth_reader acct_reader : Worker (AgentDesk C) D I) (auth_back acct_back : SocketBack C D)
       → Carries (StandsBy readings) k base → RoseBy (ticks (of 0 k.seen)) dials.faults dials'.faults → dials.faults ≤ dials'.faults
-      → Ends hears speaks told end dials' dials'' (Rose starts middle) k k' twins past → starts' ≡ middle
+      → Ends hears speaks told end dials' dials'' (Rose starts middle) k k' twins past → StopsFor end dials''.row starts middle → starts' ≡ middle
       → StartsFor told Auth 1 k auth auth_reader → StartsFor told Acct 2 k acct acct_reader
       → IsSocketBack told (Ok auth_reader) auth_back → IsSocketBack told (Ok acct_reader) acct_back
       → AllDone readings told hears speaks base dials dials' dials'' starts starts' auth acct k k' end twins past auth_back acct_back
   all-done readings hears speaks base dials dials' dials'' starts middle starts' auth acct k k' end twins past auth_reader acct_reader auth_back acct_back
-      carries dialled grows ends same auth_starts acct_starts auth_is acct_is = record {
+      carries dialled grows ends stops same auth_starts acct_starts auth_is acct_is = record {
         carries = carries;
         dialled = dialled;
         grows = grows;
         ends = subst (λ (n : ℕ). Ends hears speaks told end dials' dials'' (Rose starts n) k k' twins past) (sym same) ends;
+        stops = subst (λ (n : ℕ). StopsFor end dials''.row starts n) (sym same) stops;
         auth_done = socket-done Auth 1 k auth auth_reader auth_back auth_starts auth_is;
         acct_done = socket-done Acct 2 k acct acct_reader acct_back acct_starts acct_is;
       }
+
+-- ---- the links of a trail
+
+module _ {C D I O : Type 0} where
+  pub kept-links : (trail : Option (Trail C D I O)) (pairs : List (Pair I O)) (links made made' : ℕ) → IfSome trail (λ t. t.links ≡ pairs) → Keeps (links + 1) (length pairs) made made'
+      → IfSome trail (λ t. Keeps (links + 1) (length t.links) made made')
+  kept-links None pairs links made made' same kept = tt
+  kept-links (Some t) pairs links made made' same kept = subst (λ (ps : List (Pair I O)). Keeps (links + 1) (length ps) made made') (sym same) kept
+
+  -- no link was over at first, and one was made
+  pub links-all : (trail : Option (Trail C D I O)) (pairs : List (Pair I O)) (first middle last : ℕ) → pairs ≡ [] → middle ≡ counted first 1
+      → IfSome trail (λ t. Keeps (length pairs + 1) (length t.links) middle last) → IfSome trail (λ t. last ≡ counted first (length t.links))
+  links-all None pairs first middle last none one kept = tt
+  links-all (Some t) pairs first middle last none one kept =
+      let nothing = ap length none in
+      omega (arith, nothing, one, kept.links_are, kept.made_is)

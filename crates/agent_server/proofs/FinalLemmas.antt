@@ -7,7 +7,7 @@ use Rattle.agent_settings.specs.declared.config.Config.{Config}
 use Rattle.radius_packet.specs.declared.reasons.Via.TheVariants.{Auth, Acct}
 use Rattle.peer_machine.specs.declared.LinkCause.{LinkCause}
 use Rattle.agent_status.specs.declared.status.Status.{Status}
-use Rattle.agent_status.specs.declared.status.Status.TheVariants.{OutOfMemory}
+use Rattle.agent_status.specs.declared.status.Status.TheVariants.{NoThread, OutOfMemory}
 use Rattle.wire_devices.specs.Links.{Inlet, Outlet}
 use Rattle.wire_devices.specs.Sockets.{Socket}
 use Rattle.agent_events.specs.declared.events.Input.TheVariants.{Drain, Up}
@@ -17,17 +17,17 @@ use Rattle.server_workers.specs.declared.running.RunEnd.TheVariants as run
 use Rattle.server_workers.specs.declared.links.Pair.{Pair}
 use Rattle.server_workers.specs.Entries.{EachEntry, EndsWith}
 use Rattle.server_workers.specs.LinkReading.{LinkMayTake}
-use Rattle.server_workers.specs.Running.{ClosedFor, EndsRun, HasSpare, LeftAtEnd, NoLeave, RunOver}
+use Rattle.server_workers.specs.Running.{ClosedFor, EndsRun, HasReaders, HasSpare, LeftAtEnd, NoLeave, RunOver, StopsFor}
 use Rattle.agent_server.specs.Runs.{IsRun, closed, places_of}
 use Rattle.agent_server.specs.Server.{AreWorn, Because, IsGiven, LeavesAtEnd, Linked, MayTurn, rank, status_given}
-use Rattle.server_workers.specs.Serving.{AllBut, IsTick, Span, Spanned, Spans}
+use Rattle.server_workers.specs.Serving.{AllBut, IsTick, Span, Spanned, Spans, WasRead}
 use Rattle.server_workers.specs.Serving.Spans.{no_more, one_more}
 use Rattle.server_workers.specs.SocketReading.{ServedSocket, SocketMayTake}
 use Rattle.agent_server.specs.Spans.{closings}
 use Rattle.server_workers.specs.Segments.{AreSpans, IsClosed, IsSpan, IsWithin, ServerTurn, flat}
 use Rattle.agent_server.proofs.AskingLemmas.{All-left, All-right, Asks, IsOwn, IsWritten, all-of, asks-by, own-asks, within-all, write-tick}
 use Rattle.server_workers.proofs.DialLemmas.{each-append}
-use Rattle.server_workers.proofs.GrowthLemmas.{all_but-grow, closed_for-grow, ends-grow, grow, length-grow, others-follow, spanned-grow}
+use Rattle.server_workers.proofs.GrowthLemmas.{all_but-grow, all_but-of, closed_for-grow, ends-grow, first-grow, grow, length-grow, others-follow, readers-grow, spanned-grow}
 use Rattle.server_workers.proofs.LinkOverLemmas.{each-weaker}
 use Rattle.server_workers.proofs.NextLinkLemmas.{spans-length, spans-reads}
 use Rattle.agent_server.proofs.SpanLemmas.{closed-heard, closed-stays, closings-fit, spans-fit, within-after, within-each}
@@ -72,6 +72,8 @@ module _ {I O : Type 0} (hears : I → Inlet) (speaks : O → Outlet) where
         some = subst (λ n. 0 < n) (sym (length-grow over.segs more)) over.some;
         few = over.few;
         closed = all_but-grow IsClosed over.segs more over.closed;
+        first = first-grow over.segs more over.first;
+        read = readers-grow end over.segs more over.read;
         ends = ends-wider end row refused over.segs seen seen' more own over.ends;
       }
 
@@ -129,6 +131,18 @@ only-spare : {A : Type 0} (end : RunEnd) (failed : Bool) (last : Option LinkCaus
 only-spare {A} run.NoMemory failed last links spare only memory = absurd (memory refl)
 only-spare {A} end failed last links spare only memory = only
 
+-- each reader ran, but the last where it couldn't be started
+readers-but : (end : RunEnd) (segs : List (List ServerTurn)) → HasReaders end segs → AllBut WasRead segs
+readers-but run.NoThread segs read = read
+readers-but run.NoMemory segs read = read
+readers-but end segs read = all_but-of WasRead segs read
+
+readers-whole : (end : RunEnd) (failed : Bool) (last : Option LinkCause) (links : ℕ) (segs : List (List ServerTurn)) → HasReaders end segs
+    → status_given end failed last links ≢ NoThread → status_given end failed last links ≢ OutOfMemory → All WasRead segs
+readers-whole run.NoThread failed last links segs read thread memory = absurd (thread refl)
+readers-whole run.NoMemory failed last links segs read thread memory = absurd (memory refl)
+readers-whole end failed last links segs read thread memory = read
+
 module _ {I O : Type 0} (hears : I → Inlet) (speaks : O → Outlet) where
   span-own : (pair : Pair I O) (seg : List ServerTurn) (out retries : ℕ) → Span hears speaks pair seg out retries → EachEntry IsOwn (of 0 seg)
   span-own pair seg out retries s =
@@ -165,12 +179,12 @@ module _ {I O : Type 0} (hears : I → Inlet) (speaks : O → Outlet) where
   )
 
   -- What is said of a run that is over: who asked what, its spans, its status, and when the agent took its leave.
-  pub record Finals (config : Config) (until : ℕ) (end : RunEnd) (row : ℕ) (refused : Type 0) (pairs : List (Pair I O)) (turns : List ServerTurn)
+  pub record Finals (config : Config) (until : ℕ) (end : RunEnd) (row : ℕ) (refused : Type 0) (starts starts' : ℕ) (pairs : List (Pair I O)) (turns : List ServerTurn)
       (out retries : ℕ) (auth acct : Socket) (status : Status) : Type 0 where
     pub asks : All (λ (turn : ServerTurn). MayTurn auth.row acct.row turn.0 turn.1) turns
     pub linked : Linked hears speaks config pairs turns status out retries
     pub because : Because status (of 0 turns) (plain turns) (closings (places_of config (plain turns))) auth.row acct.row row refused
-    pub given : IsGiven status (closings (places_of config (plain turns))) auth.row acct.row
+    pub given : IsGiven status (closings (places_of config (plain turns))) auth.row acct.row row starts starts'
     pub leaves : 3 < rank status → ((cause : LinkCause) → ¬ AreWorn (closings (places_of config (plain turns))) cause) → LeavesAtEnd until (plain turns)
 
   final-asks : (a c : ℕ) (pairs : List (Pair I O)) (segs : List (List ServerTurn)) (turns : List ServerTurn) (out retries : ℕ) → Numbered turns
@@ -250,26 +264,30 @@ module _ {I O : Type 0} (hears : I → Inlet) (speaks : O → Outlet) where
           spanned = s;
           spans = over-spans;
           fit = spans-fit config until s.front over.segs over-front over-spans few run_on;
+          first = over.first;
+          earlier = readers-but end over.segs over.read;
+          read = readers-whole end failed last (length pairs) over.segs over.read;
         }
 
   -- all this holds of a run whose writer is done, and whose sockets' readers are
-  pub final : (config : Config) (until : ℕ) (end : RunEnd) (row : ℕ) (refused : Type 0) (pairs : List (Pair I O)) (turns : List ServerTurn) (out retries : ℕ)
+  pub final : (config : Config) (until : ℕ) (end : RunEnd) (row : ℕ) (refused : Type 0) (starts starts' : ℕ) (pairs : List (Pair I O)) (turns : List ServerTurn) (out retries : ℕ)
       (auth auth' acct acct' : Socket) (n m : ℕ) (cause : Option LinkCause) (failed : Bool) (status : Status)
       → IsRun config until (plain turns) → Numbered turns
       → RunOver hears speaks end row refused pairs turns out retries
+      → StopsFor end row starts starts'
       → ServedSocket Auth (of 1 turns) auth auth' n → ServedSocket Acct (of 2 turns) acct acct' m
       → failed ≡ ((auth'.row == 16) || (acct'.row == 16))
       → cause ≡ closed (places_of config (plain turns))
       → status ≡ status_given end failed cause (length pairs)
-      → Finals config until end row refused pairs turns out retries auth' acct' status
-  final config until end row refused pairs turns out retries auth auth' acct acct' n m cause failed status run numbered over auth_served acct_served
+      → Finals config until end row refused starts starts' pairs turns out retries auth' acct' status
+  final config until end row refused starts starts' pairs turns out retries auth auth' acct acct' n m cause failed status run numbered over stops auth_served acct_served
       failed_is cause_is status_is =
       let asked = final-asks auth'.row acct'.row over.served over.segs turns out retries numbered over.spanned auth_served.reads.asks acct_served.reads.asks in
       let facts = over-facts end row refused pairs turns out retries auth'.row acct'.row over asked config until cause run (sym cause_is) in
-      subst (Finals config until end row refused pairs turns out retries auth' acct') (sym status_is) (record {
+      subst (Finals config until end row refused starts starts' pairs turns out retries auth' acct') (sym status_is) (record {
         asks = asked;
         linked = over-linked end row refused pairs turns out retries auth'.row acct'.row over asked config until failed cause run;
         because = says config until row refused (length pairs) turns auth'.row acct'.row cause end failed failed_is facts;
-        given = is-given config until row refused (length pairs) turns auth'.row acct'.row cause end failed failed_is facts;
+        given = is-given config until row refused (length pairs) turns auth'.row acct'.row cause end failed starts starts' failed_is stops facts;
         leaves = leaves-at config until row refused (length pairs) turns auth'.row acct'.row cause end failed failed_is facts;
       })

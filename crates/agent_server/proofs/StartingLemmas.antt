@@ -1,5 +1,5 @@
 -- How a run starts, and how it ends where no worker was started.
-use Rattle.std.proofs.Common.{◌≡◌, ◌≢◌, ℕ, zero, suc, ◌+◌, ◌<◌, ◌≤◌, ◌⊎◌, inl, inr, max, Bool, true, false, cond, ◌||◌, List, [], ◌∷◌, ◌++◌, length, Option, Some, None, Result, Ok, Err, IfOk, IfErr, IfSome, MatchResult, is_some, vec_capacity, refl, sym, ap, ◌∙◌, subst, append_assoc, arith}
+use Rattle.std.proofs.Common.{◌≡◌, ◌≢◌, ℕ, zero, suc, ◌+◌, ◌<◌, ◌≤◌, ◌⊎◌, inl, inr, max, Bool, true, false, cond, ◌||◌, List, [], ◌∷◌, ◌++◌, length, Option, Some, None, Result, Ok, Err, IfOk, IfErr, IfSome, IfNone, IsSome, MatchResult, is_some, true≢false, vec_capacity, refl, sym, ap, ◌∙◌, subst, append_assoc, arith}
 use Rattle.std.proofs.lemmas.Bool.{cases_order}
 use Rattle.std.proofs.lemmas.List.{append-nil, same_from_push}
 use Rattle.std.proofs.lemmas.List.Elements.{All-nil}
@@ -46,8 +46,8 @@ use Rattle.server_workers.specs.Going.{SeenLast, Went}
 use Rattle.server_workers.specs.Running.{Dialled, IsFinishedTick, NoLeave, Opened, RoseBy, StartedAs}
 use Rattle.agent_server.specs.Runs.{IsRun, has_left, places_of}
 use Rattle.agent_events.specs.Kinds.{is_leave}
-use Rattle.agent_server.specs.Server.{EndsEarly, HasPassed, Holds, Served}
-use Rattle.server_workers.specs.Serving.{IsTick}
+use Rattle.agent_server.specs.Server.{Began, EndsEarly, HasPassed, HasTrail, Holds, Served}
+use Rattle.server_workers.specs.Serving.{IsTick, WasRead}
 use Rattle.server_workers.specs.Serving.Spans.{no_more}
 use Rattle.server_workers.specs.SocketReading.{ReadsSocket}
 use Rattle.server_workers.specs.Segments.{IsClosed, ServerTurn}
@@ -70,6 +70,13 @@ module _ {C : Type 0} (readings : C → Option (List ℕ)) where
         numbered = numbered;
         clock_read = subst (λ (e : DeskEnd C). HasRead (readings e.clock) base.before (plain turns)) (sym is) stands.clock;
       })
+
+  pub read-began : (clock : C) (base : RunBase) (seen : List ServerTurn) → IsRead readings clock base seen → Began base.config base.until base.before (readings clock)
+  read-began clock base seen read = record { turns = plain seen; run = read.run; clock_read = read.clock_read }
+
+  -- no turn was taken
+  pub none-began : (clock : C) (base : RunBase) → HasRead (readings clock) base.before [] → Began base.config base.until base.before (readings clock)
+  none-began clock base read = record { turns = []; run = tt; clock_read = read }
 
   pub carries-on : {I O E : Type 0} (base : RunBase) (r : Result (Stand C I O) E) (pass : PassOf (AgentDesk C) Input Heard) → IfOk r (λ stand. stand.pass ≡ pass)
       → Carries (StandsBy readings) (known pass) base → IfOk r (λ stand. Carries (StandsBy readings) (known stand.pass) base)
@@ -146,6 +153,7 @@ module _ {C D I O : Type 0} (told : D → Socket) (hears : I → Inlet) (speaks 
               spans = no_more;
             };
             closed = All-nil IsClosed;
+            read = All-nil WasRead;
             quiet = subst NoLeave (sym own) (each-weaker (λ ask heard. IsTick ask) (λ ask heard. is_leave ask ≡ false) mine tick-stays dialled.asks);
           };
           opened = heard;
@@ -169,7 +177,7 @@ module _ {C I O : Type 0} (hears : I → Inlet) (speaks : O → Outlet) where
           some,
           record {
             asks = subst (EachEntry (λ ask heard. IsTick ask)) (sym now.0) dialled.asks;
-            last = subst (λ (ts : List RunTurn). (front : List RunTurn) × (x : RunTurn) × (ts ≡ front ++ x ∷ []) × IsFinishedTick x) (sym now.0) dialled.ends.1;
+            last = subst (λ (ts : List RunTurn). (front : List RunTurn) × (x : RunTurn) × (ts ≡ front ++ x ∷ []) × IsFinishedTick x) (sym now.0) dialled.ends.2;
             alone = now.1;
           },
         ),
@@ -469,7 +477,20 @@ rose-same k l d e same rose = subst (λ (ts : List ServerTurn). RoseBy (ticks (o
 pub served-from : {C D I O : Type 0} (readings : C → Option (List ℕ)) (told : D → Socket) (hears : I → Inlet) (speaks : O → Outlet) (config : Config) (until : ℕ)
     (before : List ℕ) (auth acct auth' acct' : Socket) (dials dials' : Dials) (starts starts' now : ℕ) (clock : C) (trail : Option (Trail C D I O)) (status : Status)
     → starts' ≡ starts
-    → IfSome trail (λ t. Served readings told hears speaks config until before auth acct auth' acct' dials dials' (Rose starts' now) clock t status)
-    → IfSome trail (λ t. Served readings told hears speaks config until before auth acct auth' acct' dials dials' (Rose starts now) clock t status)
+    → IfSome trail (λ t. Served readings told hears speaks config until before auth acct auth' acct' dials dials' starts' now clock t status)
+    → IfSome trail (λ t. Served readings told hears speaks config until before auth acct auth' acct' dials dials' starts now clock t status)
 served-from readings told hears speaks config until before auth acct auth' acct' dials dials' starts starts' now clock trail status same served =
-    subst (λ (n : ℕ). IfSome trail (λ t. Served readings told hears speaks config until before auth acct auth' acct' dials dials' (Rose n now) clock t status)) same served
+    subst (λ (n : ℕ). IfSome trail (λ t. Served readings told hears speaks config until before auth acct auth' acct' dials dials' n now clock t status)) same served
+
+-- ---- whether there is a trail
+
+pub has-trail : {A : Type 0} (trail : Option A) (before then now : ℕ) → IsSome trail → RoseBy 3 before then → then ≤ now → HasTrail trail before now
+has-trail None before then now some rose more = absurd (true≢false (sym some))
+has-trail (Some x) before then now some rose more = omega (arith, rose, more)
+
+pub no-trail : {A : Type 0} (trail : Option A) (before then now : ℕ) → trail ≡ None → then < before + 3 → now ≡ then → HasTrail trail before now
+no-trail {A} trail before then now none few same = subst (λ (t : Option A). HasTrail t before now) (sym none) (omega (arith, few, same))
+
+pub if-none : {A : Type 0} (o : Option A) (P : Type 0) → P → IfNone o P
+if-none None P has = has
+if-none (Some x) P has = tt

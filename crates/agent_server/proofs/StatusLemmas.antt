@@ -8,7 +8,7 @@ use Rattle.agent_settings.specs.declared.config.Config.{Config}
 use Rattle.peer_machine.specs.declared.LinkCause.{LinkCause}
 use Rattle.peer_machine.specs.declared.LinkCause.TheVariants.{Left, Refused}
 use Rattle.agent_status.specs.declared.status.Status.{Status}
-use Rattle.agent_status.specs.declared.status.Status.TheVariants.{DatagramFault, Done, LinkEnded, PeerRefused}
+use Rattle.agent_status.specs.declared.status.Status.TheVariants.{DatagramFault, Done, LinkEnded, LinkFault, NoThread, PeerRefused}
 use Rattle.agent_events.specs.declared.events.Input.{Input}
 use Rattle.agent_events.specs.declared.events.Input.TheVariants.{Drain, Leave}
 use Rattle.turnstile.specs.Turns.{of, plain}
@@ -16,7 +16,7 @@ use Rattle.server_workers.specs.declared.heard.Heard.{Heard}
 use Rattle.server_workers.specs.declared.running.RunEnd.{RunEnd}
 use Rattle.server_workers.specs.declared.running.RunEnd.TheVariants as run
 use Rattle.server_workers.specs.Entries.{RunTurn, is_final}
-use Rattle.server_workers.specs.Running.{LeftAtEnd, NoLeave}
+use Rattle.server_workers.specs.Running.{LeftAtEnd, NoLeave, StopsFor}
 use Rattle.agent_server.specs.Runs.{IsRun, closed, has_left, history, places_of}
 use Rattle.agent_events.specs.Kinds.{is_leave}
 use Rattle.agent_server.specs.Server.{AreWorn, Because, HasFinished, IsGiven, LeavesAtEnd, ended_status, others, rank, status_given}
@@ -230,6 +230,11 @@ given-failed run.Closed last links = inl refl
 given-failed run.Left last links = inl refl
 given-failed run.Worn last links = inl refl
 
+given-dialled : (failed : Bool) (last : Option LinkCause) (links : ℕ)
+    → (status_given run.LinkFault failed last links ≡ LinkFault) ⊎ (rank (status_given run.LinkFault failed last links) < 3)
+given-dialled true last links = inr (omega arith)
+given-dialled false last links = inl refl
+
 given-refused : (end : RunEnd) (failed : Bool) (code links : ℕ)
     → (status_given end failed (Some (Refused code)) links ≡ PeerRefused code) ⊎ (rank (status_given end failed (Some (Refused code)) links) < 4)
 given-refused run.NoMemory failed code links = inr (omega arith)
@@ -296,8 +301,14 @@ module _ (config : Config) (until row : ℕ) (refused : Type 0) (links : ℕ) (t
   says run.Worn false is f = ended-says run.Worn f f.all (λ done. absurd (worn-done f done))
 
   -- each status that stands is given, unless one with a lesser rank is
-  pub is-given : (end : RunEnd) (failed : Bool) → failed ≡ ((a == 16) || (c == 16)) → At end → IsGiven (status_given end failed last links) causes a c
-  is-given end failed is f = record {
+  pub is-given : (end : RunEnd) (failed : Bool) (starts starts' : ℕ) → failed ≡ ((a == 16) || (c == 16)) → StopsFor end row starts starts' → At end
+      → IsGiven (status_given end failed last links) causes a c row starts starts'
+  is-given end failed starts starts' is stops f = record {
+    threads = λ more.
+        subst (λ (e : RunEnd). (status_given e failed last links ≡ NoThread) ⊎ (rank (status_given e failed last links) < 1)) (sym (stops.threads more)) (inl refl);
+    dialled = λ full.
+        subst (λ (e : RunEnd). (status_given e failed last links ≡ LinkFault) ⊎ (rank (status_given e failed last links) < 3)) (sym (stops.dials full))
+        (given-dialled failed last links);
     sockets = λ over.
         subst (λ (b : Bool). (status_given end b last links ≡ DatagramFault) ⊎ (rank (status_given end b last links) < 2)) (sym (is ∙ row-failed a c over))
         (given-failed end last links);

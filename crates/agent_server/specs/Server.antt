@@ -24,7 +24,7 @@ use Rattle.server_workers.specs.Entries.{RunTurn, is_final, replies_by, ticks}
 use Rattle.server_workers.specs.LinkReading.{LinkMayTake}
 use Rattle.server_workers.specs.Running.{LeftAtEnd, RoseBy}
 use Rattle.agent_server.specs.Runs.{IsRun, history, places_of}
-use Rattle.server_workers.specs.Serving.{AreUnopened, IsUp, MayWrite, Spanned}
+use Rattle.server_workers.specs.Serving.{AllBut, AreUnopened, FirstWasRead, IsUp, MayWrite, Spanned, WasRead}
 use Rattle.server_workers.specs.SocketReading.{ServedSocket, SocketMayTake}
 use Rattle.agent_server.specs.Spans.{SpansFit, closings}
 use Rattle.server_workers.specs.Segments.{AreSpans, ServerTurn}
@@ -94,8 +94,11 @@ Because (LinkEnded cause) own turns causes auth acct dials refused = AreWorn cau
 Because status own turns causes auth acct dials refused = ⊥
 
 -- Each of these statuses is given where it stands, unless one with a lesser rank is.
-pub record IsGiven (status : Status) (causes : List LinkCause) (auth acct : ℕ) : Type 0 where
+-- The crew's count of refused starts was `starts` and is `starts'`.
+pub record IsGiven (status : Status) (causes : List LinkCause) (auth acct dials starts starts' : ℕ) : Type 0 where
+  pub threads : starts < starts' → (status ≡ NoThread) ⊎ (rank status < 1)
   pub sockets : (auth ≡ 16) ⊎ (acct ≡ 16) → (status ≡ DatagramFault) ⊎ (rank status < 2)
+  pub dialled : dials ≡ 16 → (status ≡ LinkFault) ⊎ (rank status < 3)
   pub refused : (code : ℕ) → Holds causes (Refused code) → (status ≡ PeerRefused code) ⊎ (rank status < 4)
   pub worn : (cause : LinkCause) → AreWorn causes cause → (status ≡ LinkEnded cause) ⊎ (rank status < 5)
 
@@ -118,7 +121,8 @@ status_given end failed closed links = if failed then DatagramFault else ended_s
 -- ---- a run
 
 module _ {I O : Type 0} (hears : I → Inlet) (speaks : O → Outlet) where
-  -- All turns of a run fall into the dialling at first and the spans of its links.
+  -- All turns of a run fall into the dialling at first and the spans of its links. The reader of each link took turns, but
+  -- that of the last, and not the first, where it couldn't be started or memory was wanting.
   pub record Linked (config : Config) (pairs : List (Pair I O)) (turns : List ServerTurn) (status : Status) (out retries : ℕ) : Type 0 where
     pub opened : List (Pair I O)
     pub spare : List (Pair I O)
@@ -129,11 +133,15 @@ module _ {I O : Type 0} (hears : I → Inlet) (speaks : O → Outlet) where
     pub spanned : Spanned hears speaks opened segs turns out retries
     pub spans : AreSpans segs
     pub fit : SpansFit config spanned.front segs
+    pub first : FirstWasRead segs
+    pub earlier : AllBut WasRead segs
+    pub read : status ≢ NoThread → status ≢ OutOfMemory → All WasRead segs
 
 module _ {C D I O : Type 0} (readings : C → Option (List ℕ)) (told : D → Socket) (hears : I → Inlet) (speaks : O → Outlet) where
   -- What a run was whose workers were started: of these settings up to the moment `until`, over a clock that had told these
-  -- readings before. Where 16 receives of a socket or 16 dials in a row failed, the count of its faults rose.
-  pub record Served (config : Config) (until : ℕ) (before : List ℕ) (auth acct auth' acct' : Socket) (dials dials' : Dials) (refused : Type 0)
+  -- readings before. Where 16 receives of a socket or 16 dials in a row failed, the count of its faults rose. The crew's
+  -- count of refused starts was `starts` and is `starts'`.
+  pub record Served (config : Config) (until : ℕ) (before : List ℕ) (auth acct auth' acct' : Socket) (dials dials' : Dials) (starts starts' : ℕ)
       (clock : C) (trail : Trail C D I O) (status : Status) : Type 0 where
     pub run : IsRun config until (plain trail.turns)
     pub numbered : Numbered trail.turns
@@ -155,10 +163,24 @@ module _ {C D I O : Type 0} (readings : C → Option (List ℕ)) (told : D → S
     pub auth_failed : auth'.row ≡ 16 → Rose auth.faults auth'.faults
     pub acct_failed : acct'.row ≡ 16 → Rose acct.faults acct'.faults
     pub dials_failed : dials'.row ≡ 16 → Rose dials.faults dials'.faults
-    pub because : Because status (of 0 trail.turns) (plain trail.turns) (closings (places_of config (plain trail.turns))) auth'.row acct'.row dials'.row refused
-    pub given : IsGiven status (closings (places_of config (plain trail.turns))) auth'.row acct'.row
+    pub because : Because status (of 0 trail.turns) (plain trail.turns) (closings (places_of config (plain trail.turns))) auth'.row acct'.row dials'.row (Rose starts starts')
+    pub given : IsGiven status (closings (places_of config (plain trail.turns))) auth'.row acct'.row dials'.row starts starts'
     pub leaves : 3 < rank status → ((cause : LinkCause) → ¬ AreWorn (closings (places_of config (plain trail.turns))) cause)
         → LeavesAtEnd until (plain trail.turns)
+
+-- ---- a run without workers
+
+-- A trail is there exactly where three jobs were started: the readers of the sockets and of the first link. A u64's count
+-- stands still at its end.
+abbrev pub HasTrail : {A : Type 0} → Option A → ℕ → ℕ → Type 0
+HasTrail {A} None started started' = started' < started + 3
+HasTrail {A} (Some trail) started started' = RoseBy 3 started started'
+
+-- These turns were all of a run, and each took one reading of the clock, which had told these readings before.
+pub record Began (config : Config) (until : ℕ) (before : List ℕ) (told : Option (List ℕ)) : Type 0 where
+  pub turns : List RunTurn
+  pub run : IsRun config until turns
+  pub clock_read : HasRead told before turns
 
 -- a reading of the clock is at or past that moment, where it tells its readings
 abbrev pub HasPassed : Option (List ℕ) → ℕ → Type 0

@@ -31,7 +31,7 @@ use Rattle.server_workers.specs.declared.workers.Worker.{Worker}
 use Rattle.server_workers.specs.declared.workers.Worker.TheVariants as worker
 use Rattle.agent_server.specs.Desks.{HasRead, StandsBy}
 use Rattle.server_workers.specs.Entries.{EachEntry, EndsWith, ticks}
-use Rattle.server_workers.specs.Running.{Ends, IsFinishedTick, Opened, RoseBy}
+use Rattle.server_workers.specs.Running.{Ends, IsFinishedTick, Opened, RoseBy, StopsFor}
 use Rattle.agent_server.specs.Runs.{IsRun}
 use Rattle.server_workers.specs.Serving.{IsTick}
 use Rattle.server_workers.specs.SocketReading.{ReadsSocket}
@@ -183,5 +183,6 @@ pub record AllDone {C D I O : Type 0} (readings : C → Option (List ℕ)) (told
   pub dialled : RoseBy (ticks (of 0 k.seen)) dials.faults dials'.faults
   pub grows : dials.faults ≤ dials'.faults
   pub ends : Ends hears speaks told end dials' dials'' (Rose starts starts') k k' twins past
+  pub stops : StopsFor end dials''.row starts starts'
   pub auth_done : SocketDone told Auth 1 k auth auth_back
   pub acct_done : SocketDone told Acct 2 k acct acct_back

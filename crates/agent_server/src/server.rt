@@ -1,6 +1,6 @@
 //! The server: one core, at which the writer of the link and its workers take turns.
 
-ghost use Rattle.std.specs.Prelude.{◌≡◌, ◌+◌, ◌≤◌, ◌⊎◌, ℕ, List, [], ◌∷◌, length, vec_capacity, IfOk, IfErr, IfSome, IfNone, IsSome, MatchResult, Ok, Err, None};
+ghost use Rattle.std.specs.Prelude.{◌≡◌, ◌+◌, ◌<◌, ◌≤◌, ◌⊎◌, ℕ, List, [], ◌∷◌, length, vec_capacity, IfOk, IfErr, IfSome, IfNone, IsSome, MatchResult, Ok, Err, None};
 ghost use Rattle.std.specs.Arc.{arc_value};
 ghost use Rattle.wire_core.specs.Counts.{Rose};
 ghost use Rattle.radius_packet.specs.declared.reasons.Via.TheVariants.{Auth, Acct};
@@ -15,8 +15,8 @@ ghost use Rattle.turnstile.specs.Passes.{known, table_of};
 ghost use Rattle.turnstile.specs.Turns.{of};
 ghost use Rattle.agent_server.specs.Desks.{HasRead, StandsBy};
 ghost use Rattle.server_workers.specs.Entries.{ticks};
-ghost use Rattle.server_workers.specs.Running.{RoseBy, StartedAs};
-ghost use Rattle.agent_server.specs.Server.{EndsEarly, Served, status_given};
+ghost use Rattle.server_workers.specs.Running.{Keeps, RoseBy, StartedAs, counted};
+ghost use Rattle.agent_server.specs.Server.{Began, EndsEarly, HasTrail, Served, status_given};
 ghost use Rattle.agent_server.specs.Starting.{Alike, AllDone, AreShares, FirstFails, FirstOpened, IsAt, IsLinkReader, IsLinkReaderOf, IsRead, IsReader, IsReaderOf, IsReady, IsSocketBack, IsSocketWorker, IsStart, StartsFor};
 ghost use Rattle.server_workers.specs.Workers.{CanRun};
 
@@ -49,7 +49,7 @@ pub struct World<C, D, L, W> {
     pub crew: W,
 }
 
-/// How a run ended, and what is left of it. `trail` is there where all workers were started at first.
+/// How a run ended, and what is left of it. `trail` is there exactly where all workers were started at first.
 pub struct Finish<C, D, L: Dialer, W> {
     pub status: Status,
     pub world: World<C, D, L, W>,
@@ -122,6 +122,8 @@ where
     ensures ready { IfOk result IsReady }
     ensures carries { (base : RunBase) → config ≡ base.config → until ≡ base.until → HasRead (C.readings clock) base.before []
         → IfOk result (λ stand. Carries (StandsBy C.readings) (known stand.pass) base) }
+    ensures began { (base : RunBase) → config ≡ base.config → until ≡ base.until → HasRead (C.readings clock) base.before []
+        → IfErr result (λ clock. Began base.config base.until base.before (C.readings clock)) }
 {
     let Ok(pairs) = Vec::with_capacity(alloc, MOST_LINKS) else {
         return Err(clock);
@@ -155,6 +157,8 @@ fn share<C: Clock + Drop, I: Drop, O: Drop>(
     requires pairs { (pairs.items ≡ []) × (256 ≤ vec_capacity pairs) }
     ensures ready { IfOk result IsReady }
     ensures same { IfOk result (λ stand. stand.pass ≡ pass) }
+    ensures began { (base : RunBase) → Carries (StandsBy C.readings) (known pass) base
+        → IfErr result (λ clock. Began base.config base.until base.before (C.readings clock)) }
 {
     let turnstile = match Arc::new(alloc, turnstile) {
         Ok(turnstile) => turnstile,
@@ -204,6 +208,7 @@ where
     ensures table { table_of pass.new ≡ table_of pass.old }
     ensures same { ((known pass.new).first ≡ (known pass.old).first) × ((known pass.new).numbers ≡ (known pass.old).numbers) }
     ensures opened { IfOk result (λ first. FirstOpened L.In.told L.Out.told D.told first (known pass.new).seen (L.told dialer.old) (L.told dialer.new)) }
+    ensures made { IfOk result (λ first. L.made dialer.new ≡ counted (L.made dialer.old) 1) }
     ensures alike { IfOk result (λ first. Alike (D.told auth.old) (D.told auth.new) × Alike (D.told acct.old) (D.told acct.new)) }
     ensures failed { IfErr result (λ status. FirstFails status (known pass.new).seen (L.told dialer.old) (L.told dialer.new)
         (Rose (D.told auth.old).faults (D.told auth.new).faults ⊎ Rose (D.told acct.old).faults (D.told acct.new).faults)) }
@@ -324,8 +329,10 @@ where
     requires can { CanRun D.told I.told workers.auth × CanRun D.told I.told workers.acct × CanRun D.told I.told workers.link }
     ensures ok { IfOk result (λ team. (team.auth ≡ workers.auth) × (team.acct ≡ workers.acct) × (team.link ≡ workers.link)) }
     ensures unrefused { IfOk result (λ team. W.faults crew.new ≡ W.faults crew.old) }
+    ensures all_started { IfOk result (λ team. RoseBy 3 (W.started crew.old) (W.started crew.new)) }
     ensures err { IfErr result (λ team. IsStart workers.auth team.auth × IsStart workers.acct team.acct × (team.link ≡ workers.link)) }
     ensures refused { IfErr result (λ team. Rose (W.faults crew.old) (W.faults crew.new)) }
+    ensures few_started { IfErr result (λ team. W.started crew.new < W.started crew.old + 3) }
 {
     let Workers { auth, acct, link } = workers;
     let auth = match crew.start(auth) {
@@ -386,10 +393,12 @@ where
         × IsReaderOf (arc_value turnstile.now) 2 Acct (known pass.new) acct team.acct
         × IsLinkReaderOf (arc_value turnstile.now) 3 (known pass.new) link twins team.link) }
     ensures unrefused { IfOk result (λ team. W.faults crew.new ≡ W.faults crew.old) }
+    ensures all_started { IfOk result (λ team. RoseBy 3 (W.started crew.old) (W.started crew.new)) }
     ensures err { IfErr result (λ team. MatchResult team.auth (IsReader (arc_value turnstile.now) 1) (IsReader (arc_value turnstile.now) 1)
         × MatchResult team.acct (IsReader (arc_value turnstile.now) 2) (IsReader (arc_value turnstile.now) 2)
         × IsLinkReader (arc_value turnstile.now) 3 team.link) }
     ensures refused { IfErr result (λ team. Rose (W.faults crew.old) (W.faults crew.new)) }
+    ensures few_started { IfErr result (λ team. W.started crew.new < W.started crew.old + 3) }
 {
     let workers = make_workers(alloc, turnstile, pass, shares, auth, acct, link, twins);
     start_team(crew, workers)
@@ -414,6 +423,7 @@ where
     requires worker { IsSocketWorker reader }
     ensures back { IsSocketBack D.told (Ok reader) result }
     ensures faults { W.faults crew.new ≡ W.faults crew.old }
+    ensures started { W.started crew.new ≡ W.started crew.old }
 {
     match crew.finish(reader) {
         Ended::Reader {
@@ -467,6 +477,7 @@ where
     requires worker { MatchResult reader IsSocketWorker IsSocketWorker }
     ensures back { IsSocketBack D.told reader result }
     ensures faults { W.faults crew.new ≡ W.faults crew.old }
+    ensures started { W.started crew.new ≡ W.started crew.old }
 {
     match reader {
         Ok(helper) => socket_ran(crew, helper),
@@ -490,7 +501,9 @@ where
     requires theirs { (number : ℕ) × MatchResult reader (IsReader (arc_value turnstile.now) number) (IsReader (arc_value turnstile.now) number) }
     ensures table { table_of pass.new ≡ table_of pass.old }
     ensures one_more { length (known pass.new).numbers ≡ length (known pass.old).numbers + 1 }
+    ensures first { (known pass.new).first ≡ (known pass.old).first }
     ensures faults { W.faults crew.new ≡ W.faults crew.old }
+    ensures started { W.started crew.new ≡ W.started crew.old }
 {
     let back = socket_back(crew, reader);
     turnstile.join(pass, back.pass);
@@ -511,6 +524,7 @@ where
     requires theirs { (number : ℕ) × IsLinkReader (arc_value turnstile.now) number reader }
     ensures table { table_of pass.new ≡ table_of pass.old }
     ensures one_more { length (known pass.new).numbers ≡ length (known pass.old).numbers + 1 }
+    ensures first { (known pass.new).first ≡ (known pass.old).first }
 {
     let back = reader_unstarted(reader);
     turnstile.join(pass, back.pass);
@@ -535,7 +549,9 @@ where
     requires acct { MatchResult team.acct (IsReader (arc_value turnstile.now) 2) (IsReader (arc_value turnstile.now) 2) }
     requires link { IsLinkReader (arc_value turnstile.now) 3 team.link }
     ensures ends { (result.status ≡ NoThread) × (result.trail ≡ None) }
+    ensures began { (base : RunBase) → Carries (StandsBy C.readings) (known pass) base → Began base.config base.until base.before (C.readings result.clock) }
     ensures faults { W.faults crew.new ≡ W.faults crew.old }
+    ensures started { W.started crew.new ≡ W.started crew.old }
 {
     let _ = enter(rt, turnstile, &mut pass, &Input::Leave);
     let Unteamed { auth, acct, link } = team;
@@ -599,11 +615,13 @@ where
     requires started { StartedAs L.In.told L.Out.told D.told (arc_value turnstile.now) (known pass) team.link link_out past }
     requires readers { IsReader (arc_value turnstile.now) 1 team.auth × IsReader (arc_value turnstile.now) 2 team.acct }
     ensures some { IsSome result.trail }
+    ensures started { W.started crew.old ≤ W.started crew.new }
+    ensures kept { IfSome result.trail (λ trail. Keeps (length past.pairs.items + 1) (length trail.links) (L.made dialer.old) (L.made dialer.new)) }
     ensures served { (base : RunBase) (dials : Dials) (auth acct : Socket) → Carries (StandsBy C.readings) (known pass) base
         → RoseBy (ticks (of 0 (known pass).seen)) dials.faults (L.told dialer.old).faults → dials.faults ≤ (L.told dialer.old).faults
         → StartsFor D.told Auth 1 (known pass) auth team.auth → StartsFor D.told Acct 2 (known pass) acct team.acct
         → IfSome result.trail (λ trail. Served C.readings D.told L.In.told L.Out.told base.config base.until base.before auth acct (D.told result.auth) (D.told result.acct)
-        dials (L.told dialer.new) (Rose (W.faults crew.old) (W.faults crew.new)) result.clock trail result.status) }
+        dials (L.told dialer.new) (W.faults crew.old) (W.faults crew.new) result.clock trail result.status) }
 {
     let Team { auth, acct, link } = team;
     let first = Live {
@@ -638,10 +656,11 @@ where
     requires auth { IsAt (arc_value turnstile.now) 1 (table_of auth.pass) (known auth.pass) }
     requires acct { IsAt (arc_value turnstile.now) 2 (table_of acct.pass) (known acct.pass) }
     ensures some { IsSome result.trail }
+    ensures links { IfSome result.trail (λ trail. trail.links ≡ past.pairs.items) }
     ensures served { (base : RunBase) (first then last : Dials) (starts now : ℕ) (auth_socket acct_socket : Socket) (k : Known (AgentDesk C) Input Heard)
         → AllDone C.readings D.told I.told O.told base first then last starts now auth_socket acct_socket k (known pass) end twins past auth acct
         → IfSome result.trail (λ trail. Served C.readings D.told I.told O.told base.config base.until base.before auth_socket acct_socket (D.told result.auth) (D.told result.acct)
-        first last (Rose starts now) result.clock trail result.status) }
+        first last starts now result.clock trail result.status) }
 {
     turnstile.join(&mut pass, auth.pass);
     turnstile.join(&mut pass, acct.pass);
@@ -694,9 +713,13 @@ where
     W: Crew<Worker<C, D, L::In>>,
     requires ready { IsReady stand }
     requires rows { ((D.told auth).row ≡ 0) × ((D.told acct).row ≡ 0) × ((L.told dialer.old).row ≡ 0) }
+    ensures trail { HasTrail result.trail (W.started crew.old) (W.started crew.new) }
+    ensures links { IfSome result.trail (λ trail. L.made dialer.new ≡ counted (L.made dialer.old) (length trail.links)) }
+    ensures began { (base : RunBase) → Carries (StandsBy C.readings) (known stand.pass) base
+        → IfNone result.trail (Began base.config base.until base.before (C.readings result.clock)) }
     ensures served { (base : RunBase) → Carries (StandsBy C.readings) (known stand.pass) base
         → IfSome result.trail (λ trail. Served C.readings D.told L.In.told L.Out.told base.config base.until base.before (D.told auth) (D.told acct) (D.told result.auth) (D.told result.acct)
-        (L.told dialer.old) (L.told dialer.new) (Rose (W.faults crew.old) (W.faults crew.new)) result.clock trail result.status) }
+        (L.told dialer.old) (L.told dialer.new) (W.faults crew.old) (W.faults crew.new) result.clock trail result.status) }
     ensures early { (base : RunBase) → Carries (StandsBy C.readings) (known stand.pass) base
         → IfNone result.trail (EndsEarly result.status (C.readings result.clock) base.until (L.told dialer.old) (L.told dialer.new)
         (Rose (D.told auth).faults (D.told result.auth).faults ⊎ Rose (D.told acct).faults (D.told result.acct).faults)
@@ -766,10 +789,14 @@ where
     requires limits { InLimits config }
     requires rows { ((D.told world.auth).row ≡ 0) × ((D.told world.acct).row ≡ 0) × ((L.told world.dialer).row ≡ 0) }
     ensures home { result.home ≡ None }
+    ensures trail { HasTrail result.trail (W.started world.crew) (W.started result.world.crew) }
+    ensures links { IfSome result.trail (λ trail. L.made result.world.dialer ≡ counted (L.made world.dialer) (length trail.links)) }
+    ensures began { (before : List ℕ) → HasRead (C.readings world.clock) before []
+        → IfNone result.trail (Began config until before (C.readings result.world.clock)) }
     ensures served { (before : List ℕ) → HasRead (C.readings world.clock) before []
         → IfSome result.trail (λ trail. Served C.readings D.told L.In.told L.Out.told config until before (D.told world.auth) (D.told world.acct)
         (D.told result.world.auth) (D.told result.world.acct) (L.told world.dialer) (L.told result.world.dialer)
-        (Rose (W.faults world.crew) (W.faults result.world.crew)) result.world.clock trail result.status) }
+        (W.faults world.crew) (W.faults result.world.crew) result.world.clock trail result.status) }
     ensures early { (before : List ℕ) → HasRead (C.readings world.clock) before []
         → IfNone result.trail (EndsEarly result.status (C.readings result.world.clock) until (L.told world.dialer) (L.told result.world.dialer)
         (Rose (D.told world.auth).faults (D.told result.world.auth).faults ⊎ Rose (D.told world.acct).faults (D.told result.world.acct).faults)

@@ -5,61 +5,31 @@ ghost use Rattle.wire_core.specs.Counts.{Rose};
 ghost use Rattle.agent_settings.specs.declared.config.Config.{Config};
 ghost use Rattle.agent_config.specs.Settings.{settings_in};
 ghost use Rattle.agent_server.specs.Desks.{HasRead};
+ghost use Rattle.agent_server.specs.Server.{HasTrail};
+ghost use Rattle.server_workers.specs.Running.{counted};
 ghost use Rattle.text_commands.specs.SettingsInput.{SettingsNot};
 ghost use Rattle.text_commands.specs.WholeInput.{most_whole};
 ghost use Rattle.socket_commands.specs.Serves.{EndedEarly, IsSoundEnd, RanServer};
 ghost use Rattle.text_commands.specs.Tasks.{EndsCounts};
-ghost use Rattle.socket_commands.specs.PeerEnds.{HomeEnds, IsSoundHome, NasRan, TakesAll};
+ghost use Rattle.socket_commands.specs.PeerEnds.{HomeCausedBy, HomeEnds, IsSoundHome, NasRan, TakesAll};
 ghost use Rattle.peer_runs.specs.HomeRuns.{HomeCounts};
-ghost use Rattle.agent_tool.specs.TextEnds.{CountsAs, EndsAs, IsSound, reads_input, text_reads};
-ghost use Rattle.command_line.specs.Words.{IsSized, command_of as command_of_words, places_of};
+ghost use Rattle.text_runs.specs.TextEnds.{CountsAs, EndsAs, IsEndAs, IsSound, reads_input};
+ghost use Rattle.command_line.specs.Words.{command_of as command_of_words, places_of};
 ghost use Rattle.command_line.specs.declared.command.TextCommand.{TextCommand};
 ghost use Rattle.command_line.specs.declared.command.Command.TheVariants as commands;
 ghost use Rattle.command_line.specs.declared.command.Places.TheVariants as places;
 
 use agent_server::{Finish, Worker, World};
 use agent_status::Status;
-use command_line::{Command, Places, TextCommand, command_of};
-use dynamic_command::dynamic;
+use command_line::{Command, Places, command_of};
 use peer_runs::Place;
-use replay_command::{measure, replay};
-use reverse_script::reverse;
 use socket_commands::{idle, run_home, run_nas, run_server};
 use std::alloc::Global;
 use std::hash::RandomState;
 use std::sync::Wait;
-use text_commands::{check, generate, show};
+use text_runs::run_text;
 use wire_core::{Sink, Source};
 use wire_devices::{Clock, Crew, Datagrams, Dialer};
-
-/// Runs a command that goes from text to text.
-fn run_text<S: Source, K: Sink>(
-    alloc: Global,
-    random: RandomState,
-    command: TextCommand,
-    input: &mut S,
-    output: &mut K,
-) -> Status
-    requires { IsSized command }
-    ensures begun { result ≢ Status.Usage }
-    ensures unread { text_reads command ≡ false → input.new ≡ input.old }
-    ensures ends { EndsAs command result (S.left input.old) (S.left input.new) (K.written output.old) (K.written output.new) }
-    ensures counts { CountsAs command result (S.ends input.old) (S.ends input.new) (S.faults input.old) (S.faults input.new)
-        (K.faults output.old) (K.faults output.new) }
-    ensures complete { (X : List ℕ) → S.left input.old ≡ Some X → IsSound command X
-        → ¬ Rose (S.faults input.old) (S.faults input.new) → ¬ Rose (K.faults output.old) (K.faults output.new)
-        → (result ≡ Status.Done) ⊎ (result ≡ Status.OutOfMemory) }
-{
-    match command {
-        TextCommand::Replay => replay(alloc, random, input, output),
-        TextCommand::Dynamic => dynamic(alloc, random, input, output),
-        TextCommand::Reverse => reverse(alloc, input, output),
-        TextCommand::Check => check(alloc, input, output),
-        TextCommand::Show => show(alloc, input, output),
-        TextCommand::Generate { count, seed } => generate(alloc, count, seed, output),
-        TextCommand::Measure { count, seed } => measure(alloc, random, count, seed, output),
-    }
-}
 
 /// Runs the command that these words name, over this input and this output, and over this outside. `random` is for tables
 /// that hash their keys.
@@ -92,6 +62,7 @@ where
     // The commands that go from text to text.
     ensures ends { (command : TextCommand) → command_of_words words.now ≡ Some (commands.Text command)
         → EndsAs command result.status (S.left input.old) (S.left input.new) (K.written output.old) (K.written output.new) }
+    ensures known { (command : TextCommand) → command_of_words words.now ≡ Some (commands.Text command) → IsEndAs command result.status }
     ensures counts { (command : TextCommand) → command_of_words words.now ≡ Some (commands.Text command)
         → CountsAs command result.status (S.ends input.old) (S.ends input.new) (S.faults input.old) (S.faults input.new)
         (K.faults output.old) (K.faults output.new) }
@@ -100,16 +71,20 @@ where
         → ¬ Rose (S.faults input.old) (S.faults input.new) → ¬ Rose (K.faults output.old) (K.faults output.new)
         → (result.status ≡ Status.Done) ⊎ (result.status ≡ Status.OutOfMemory) }
     // The server, by what `serve` promises of it.
+    ensures trail { (address auth acct peer port millis : ℕ) → command_of_words words.now ≡ Some (commands.Run (places.Serve address auth acct peer port) millis)
+        → HasTrail result.trail (W.started world.crew) (W.started result.world.crew) }
+    ensures links { (address auth acct peer port millis : ℕ) → command_of_words words.now ≡ Some (commands.Run (places.Serve address auth acct peer port) millis)
+        → IfSome result.trail (λ trail. L.made result.world.dialer ≡ counted (L.made world.dialer) (length trail.links)) }
     ensures served { (address auth acct peer port millis : ℕ) → command_of_words words.now ≡ Some (commands.Run (places.Serve address auth acct peer port) millis)
         → (before : List ℕ) → HasRead (C.readings world.clock) before []
         → IfSome result.trail (λ trail. RanServer C.readings D.told L.In.told L.Out.told millis (S.left input.old) (S.left input.new) before
         (D.told world.auth) (D.told world.acct) (D.told result.world.auth) (D.told result.world.acct) (L.told world.dialer) (L.told result.world.dialer)
-        (Rose (W.faults world.crew) (W.faults result.world.crew)) result.world.clock trail result.status
+        (W.faults world.crew) (W.faults result.world.crew) result.world.clock trail result.status
         (K.written output.old) (K.written output.new) (K.faults output.old) (K.faults output.new)) }
     ensures early { (address auth acct peer port millis : ℕ) → command_of_words words.now ≡ Some (commands.Run (places.Serve address auth acct peer port) millis)
         → (before : List ℕ) → HasRead (C.readings world.clock) before []
         → IfNone result.trail ((SettingsNot result.status (S.left input.old) (S.left input.new) × (result.world ≡ world))
-        ⊎ EndedEarly result.status millis (S.left input.old) (S.left input.new) (C.readings result.world.clock) (L.told world.dialer) (L.told result.world.dialer)
+        ⊎ EndedEarly result.status millis (S.left input.old) (S.left input.new) before (C.readings result.world.clock) (L.told world.dialer) (L.told result.world.dialer)
         (Rose (D.told world.auth).faults (D.told result.world.auth).faults ⊎ Rose (D.told world.acct).faults (D.told result.world.acct).faults)
         (Rose (W.faults world.crew) (W.faults result.world.crew))) }
     ensures untold { IfNone result.trail ((address auth acct peer port millis : ℕ)
@@ -125,6 +100,9 @@ where
     // The peers of the tests.
     ensures home { (address port millis : ℕ) → command_of_words words.now ≡ Some (commands.Run (places.Home address port) millis)
         → HomeEnds L.In.told L.Out.told result.status result.home millis (S.left input.old) (S.left input.new)
+        (L.told world.dialer) (L.told result.world.dialer) (C.readings world.clock) (C.readings result.world.clock) (K.written output.old) (K.written output.new) }
+    ensures home_causes { (address port millis : ℕ) → command_of_words words.now ≡ Some (commands.Run (places.Home address port) millis)
+        → HomeCausedBy L.In.told L.Out.told result.status result.home millis (S.faults input.old) (S.faults input.new)
         (L.told world.dialer) (L.told result.world.dialer) (C.readings world.clock) (C.readings result.world.clock) (K.written output.old) (K.written output.new) }
     ensures home_counts { (address port millis : ℕ) → command_of_words words.now ≡ Some (commands.Run (places.Home address port) millis)
         → HomeCounts result.status (S.faults input.old) (S.faults input.new) (K.faults output.old) (K.faults output.new) }

@@ -271,7 +271,7 @@ fn accepter_at<R: Net<Listener = TcpListener, Stream = TcpStream> + Copy>(
     address: u32,
     port: u16,
 ) -> Result<TcpAccepter<R>, Outcome>
-    ensures { IfOk result (λ accepter. accepter.row ≡ 0) }
+    ensures { IfOk result (λ accepter. accepter.told.row ≡ 0) }
 {
     TcpAccepter::bind(rt, address, port).map_err(|e| unopened(Status::LinkFault, address, port, e))
 }

@@ -1,7 +1,7 @@
 -- The words of commands (profile).
 use Rattle.std.specs.Prelude.{ℕ, ◌^◌, ◌≤◌, ◌==◌, List, [], ◌∷◌, Option, Some, None, String, string_bytes, bytes_eq, codes, option_map, if◌then◌else◌}
 use Rattle.std.specs.declared.alloc.Global.{Global}
-use Rattle.agent_config.specs.Values.{address_in}
+use Rattle.address_text.specs.Address.{address_in}
 use Rattle.text_lines.specs.Words.{◌>>=◌, number_word}
 use Rattle.command_line.specs.declared.command.Places.{Places}
 use Rattle.command_line.specs.declared.command.Places.TheVariants as places

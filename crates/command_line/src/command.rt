@@ -5,7 +5,7 @@ ghost use Rattle.text_lines.specs.Words.{number_word};
 ghost use Rattle.command_line.specs.declared.command.Command.{Command};
 ghost use Rattle.command_line.specs.Words.{IsSized, IsSizedCommand, command_named as named_by, command_of as command_of_words, command_with as made_by, count_word, millis_word, peer_at as peer_by, peer_command as peer_by_words, port_word, serve_command as serve_by_words, sized_command as sized_by};
 
-use agent_config::read_address;
+use address_text::read_address;
 use text_lines::number_in;
 
 /// The addresses and ports of the sockets that a command wants.

@@ -3,7 +3,7 @@
 ghost use Rattle.std.specs.Prelude.{◌≡◌, ◌≢◌, ◌≤◌, ◌⊎◌, List, ℕ, Some, None, length};
 ghost use Rattle.wire_core.specs.Counts.{Rose};
 ghost use Rattle.dynamic_command.specs.Dynamic.{dynamic_task};
-ghost use Rattle.text_commands.specs.Tasks.{EndsBy, EndsCounts};
+ghost use Rattle.text_commands.specs.Tasks.{EndsBy, EndsCounts, IsLinesEnd};
 ghost use Rattle.text_lines.specs.Streams.{most_octets};
 ghost use Rattle.text_lines.specs.Words.{lines_of};
 
@@ -24,6 +24,7 @@ pub fn dynamic<S: Source, K: Sink>(
     output: &mut K,
 ) -> Status
     ensures begun { result ≢ Status.Usage }
+    ensures known { IsLinesEnd result }
     ensures ends { (X : List ℕ) → S.left input.old ≡ Some X
         → EndsBy dynamic_task result X (S.left input.new) (K.written output.old) (K.written output.new) }
     ensures counts { EndsCounts result (S.ends input.old) (S.ends input.new) (S.faults input.old) (S.faults input.new)

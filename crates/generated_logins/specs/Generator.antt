@@ -1,6 +1,6 @@
 -- The generator of transcripts: one client's logins, some of them repeated, and their answers (profile).
 use Rattle.std.specs.Prelude.{ℕ, zero, suc, ◌+◌, ◌*◌, ◌/◌, ◌%◌, ◌^◌, Bool, ◌==◌, List, [], ◌∷◌, ◌++◌, codes, decimal, if◌then◌else◌}
-use Rattle.std.specs.List.{flat_map, join_with_byte, range_with_len}
+use Rattle.std.specs.List.{flat_map, range_with_len}
 use Rattle.wire_core.specs.Numbers.{u32}
 use Rattle.hex.specs.Hex.{encode_lower}
 use Rattle.radius_packet.specs.Packet.{AttributeParts, PacketParts, packet_text}
@@ -8,6 +8,7 @@ use Rattle.diameter_avp.specs.Avps.{AvpParts, avps_text}
 use Rattle.diameter_message.specs.declared.header.Header.{Header}
 use Rattle.diameter_message.specs.Message.{message_text}
 use Rattle.diameter_message.specs.PlainAvps.{origin_avps, plain_avp}
+use Rattle.printed_lines.specs.Text.{line_of}
 
 -- ---- the numbers that are drawn
 
@@ -75,14 +76,6 @@ unfoldable pub answer_octets : ℕ → ℕ → List ℕ
 answer_octets i r = message_text (answer_header i) (avps_text (answer_avps i r))
 
 -- ---- lines, without the octet 0a that ends each
-
--- words separated by one space
-abbrev pub line_of : List (List ℕ) → List ℕ
-line_of words = join_with_byte 32 words
-
--- MOMENT link HEX
-abbrev pub link_line : List ℕ → List ℕ → List ℕ
-link_line moment hex = line_of (moment ∷ codes "link" ∷ hex ∷ [])
 
 -- one login comes every 20 milliseconds
 abbrev pub moment : ℕ → ℕ

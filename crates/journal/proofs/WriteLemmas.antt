@@ -72,6 +72,7 @@ module _ (task : Task) (key : List ℕ) (law : IsTask task) where
     sound = ends.sound;
     part = ends.part;
     unended = ends.unended;
+    short = ends.short;
     taken = ends.taken;
     written = subst (Appends before now) (titled ends.lines) (Appends-append front ends.written);
   }
@@ -81,6 +82,7 @@ module _ (task : Task) (key : List ℕ) (law : IsTask task) where
     sound = ends.sound;
     part = ends.part;
     unended = ends.unended;
+    short = ends.short;
     full = ends.full;
     more = ends.more;
     taken = ends.taken;

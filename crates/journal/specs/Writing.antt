@@ -7,6 +7,7 @@ use Rattle.journal.specs.declared.writer.Writer.{Writer}
 -- the journal of the lines
 abbrev pub journal_task : Task → List ℕ → Task
 journal_task task key = record {
+  longest = task.longest;
   stop = task.stop;
   text = λ lines. ended_text (journal_part task key lines);
   close = λ lines. ended_text (sealed_block key (last_seal task key lines) (end_block task lines));
@@ -15,6 +16,7 @@ journal_task task key = record {
 -- without its title
 abbrev pub write_task : Task → List ℕ → Task
 write_task task key = record {
+  longest = task.longest;
   stop = task.stop;
   text = λ lines. ended_text (sealed key no_seal (blocks_of task lines));
   close = λ lines. ended_text (sealed_block key (last_seal task key lines) (end_block task lines));

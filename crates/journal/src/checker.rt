@@ -8,7 +8,7 @@ ghost use Rattle.journal.specs.Checking as checking;
 ghost use Rattle.journal.specs.Checking.{Blocks, Nothing, Seen, check_task, end_lines, end_step, said_step, verdict_at};
 ghost use Rattle.journal.specs.Stands.{GoesOn, HasChecked, IsAt, StepsTo};
 
-use crate::block::{NO_SEAL, SAID, seal_block};
+use crate::block::{LONGEST_LINE, NO_SEAL, SAID, seal_block};
 use crate::due::Due;
 use crate::printed::{print_end, print_line};
 use crate::verdict::{Verdict, verdict_line};
@@ -213,6 +213,10 @@ impl<W: Work> Work for Checker<W> {
             Ok(()) => Status::Done,
             Err(status) => status,
         }
+    }
+
+    fn longest_line(&self) -> usize {
+        LONGEST_LINE
     }
 
     fn too_long(&self) -> Status {

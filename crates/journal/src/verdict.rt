@@ -8,6 +8,7 @@ ghost use Rattle.journal.specs.Journal.{journal_text};
 ghost use Rattle.journal.specs.Limits.{IsShortTask};
 ghost use Rattle.journal.specs.Verdicts.{CheckCounts, ChecksBy, JudgesBy, verdict_by, verdict_text};
 
+use crate::block::LONGEST_LINE;
 use crate::checker::Checker;
 use agent_status::Status;
 use std::alloc::Global;
@@ -62,7 +63,7 @@ fn judge<W: Work + Drop, S: Source>(
     let Ok(mut nowhere) = SteadySink::new(alloc, 0) else {
         return Err(Status::OutOfMemory);
     };
-    let Ok(mut lines) = RawLines::new(alloc) else {
+    let Ok(mut lines) = RawLines::new(alloc, LONGEST_LINE) else {
         return Err(Status::OutOfMemory);
     };
     let mut checker = Checker::new(alloc, work, key);

@@ -65,6 +65,10 @@ impl<W: Work> Work for Writer<W> {
         }
     }
 
+    fn longest_line(&self) -> usize {
+        self.work.longest_line()
+    }
+
     fn too_long(&self) -> Status {
         self.work.too_long()
     }

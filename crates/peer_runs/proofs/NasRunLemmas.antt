@@ -63,13 +63,13 @@ pub record RunsOn (place : Place) (patience count : ℕ) (input : Option (List �
   pub told : Asks place patience clients clock clock' s t
   pub goes : Goes (nas_task patience clients) (Took clients count) input c left output output'
 
-pub runs-first : (place : Place) (patience : ℕ) (c : Cutting) (left output clock : Option (List ℕ)) (s : Socket) → c.held.octets ≡ [] → c.held.passed ≡ 0
+pub runs-first : (place : Place) (patience : ℕ) (c : Cutting) (left output clock : Option (List ℕ)) (s : Socket) → c.held.octets ≡ [] → c.held.passed ≡ 0 → c.longest ≡ 140000
     → RunsOn place patience 0 left c left output output clock clock s s
-runs-first place patience c left output clock s none zero = record {
+runs-first place patience c left output clock s none zero limit = record {
   clients = [];
   answered = tt;
   told = asks-none place patience clock s;
-  goes = goes-first (nas_task patience []) (Took [] 0) (is-task patience []) c left output (record { all = tt; counted = refl }) none zero;
+  goes = goes-first (nas_task patience []) (Took [] 0) (is-task patience []) c left output (record { all = tt; counted = refl }) none zero limit;
 }
 
 -- the same with one client more, which has no line yet
@@ -83,6 +83,7 @@ with_one patience count clients client {input} {left} {before} {now} {c} g = rec
   sound = longer-stop patience clients (client ∷ []) g.lines g.taken.all;
   wrote = subst (Appends before now) (sym (longer-text patience clients (client ∷ []) g.lines g.taken.all)) g.wrote;
   passed = g.passed;
+  limit = g.limit;
   octets = g.octets;
 }
 
@@ -100,16 +101,16 @@ took-one clients client count lines line took is = record {
 module _ {place : Place} {patience count : ℕ} {input left output output' clock clock' : Option (List ℕ)} {old : Cutting} {s t : Socket}
     (r : RunsOn place patience count input old left output output' clock clock' s t) where
   pub runs-line : (count' : ℕ) (new : Cutting) (then output'' clock'' : Option (List ℕ)) (u : Socket) → TakesRawLine Line (rest_of old left) (rest_of new then) old new → IsUnended new.line
-      → AsksLine (Ok tt) place patience (one_more count) new.line output' output'' clock' clock'' t u → count' ≡ one_more count
+      → new.longest ≡ old.longest → AsksLine (Ok tt) place patience (one_more count) new.line output' output'' clock' clock'' t u → count' ≡ one_more count
       → RunsOn place patience count' input new then output output'' clock clock'' s u
-  runs-line count' new then output'' clock'' u takes unended (client, wrote, asks) counts =
+  runs-line count' new then output'' clock'' u takes unended limit (client, wrote, asks) counts =
       subst (λ n. RunsOn place patience n input new then output output'' clock clock'' s u) (sym counts) (record {
         clients = r.clients ++ client ∷ [];
         answered = All-push (IsAnswered patience) r.clients client r.answered asks.answered;
         told = asks-append place patience r.clients (client ∷ []) r.told asks.told;
         goes =
             goes-on (nas_task patience (r.clients ++ client ∷ [])) (Took r.clients count) (is-task patience (r.clients ++ client ∷ [])) {took' = Took (r.clients ++ client ∷ []) (one_more count)} old new left then
-            (with_one patience count r.clients client r.goes) takes unended
+            (with_one patience count r.clients client r.goes) takes unended limit
             (took-one r.clients client count r.goes.lines new.line r.goes.taken asks.packet)
             (line_by patience client) (adds patience r.clients client r.goes.lines new.line r.goes.taken.all asks.packet) output'' wrote;
       })
@@ -195,7 +196,7 @@ module _ {place : Place} {patience count : ℕ} {input left output output' clock
   ends-untaken fault status new then takes is =
       subst (λ status. NasEnds status place patience input then output output' clock clock' s t) (sym is) (by fault takes)
     where
-      long : (lines : List (List ℕ)) (octets : List ℕ) → Took r.clients count lines → 140100 < length octets
+      long : (lines : List (List ℕ)) (octets : List ℕ) → Took r.clients count lines → 140000 < length octets
           → (nas_task patience r.clients).stop (lines ++ octets ∷ []) ≡ Some (record { line = one_more count; reason = 1 })
       long lines octets took over =
           bad-line patience r.clients lines octets 1 took.all (too-long octets (omega (arith, over)))

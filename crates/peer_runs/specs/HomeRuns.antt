@@ -109,6 +109,14 @@ abbrev pub ReadsNone : Status → List ℕ → Option (List ℕ) → Type 0
 ReadsNone (BadTranscript line reason) input left = TakenWhole input left × (users_in input ≡ Err (BadLine line reason))
 ReadsNone status input left = TakesNot status (Some input) left
 
+-- with which status the list of users couldn't be read, by the faults of the source
+abbrev pub FailsToRead : Status → ℕ → ℕ → Type 0
+FailsToRead (BadTranscript line reason) reads reads' = Unit {0}
+FailsToRead ReadFault reads reads' = Rose reads reads'
+FailsToRead OutOfMemory reads reads' = Unit {0}
+FailsToRead TooLong reads reads' = Unit {0}
+FailsToRead status reads reads' = ⊥
+
 -- the users were read
 pub record Knows (users : List User) (input : List ℕ) (left : Option (List ℕ)) : Type 0 where
   pub taken : TakenWhole input left
@@ -124,6 +132,14 @@ module _ {I O : Type 0} (hears : I → Inlet) (speaks : O → Outlet) where
   HomeBy status (Some link) input left dialled in_time late before now =
       (users : List User) × Knows users input left × dialled × RunsBy status users in_time late (hears link.0) (speaks link.1) before now
 
+  -- The same where the input isn't told: of whatever users, by the counts of the source's faults too. Without a link the run
+  -- ended before its dial, or at it.
+  abbrev pub HomeCauses : Status → Option (I × O) → ℕ → ℕ → Type 0 → Type 0 → Type 0 → Option (List ℕ) → Option (List ℕ) → Type 0
+  HomeCauses status None reads reads' dialled in_time late before now =
+      (now ≡ before) × (FailsToRead status reads reads' ⊎ (dialled × (status ≡ LinkFault)))
+  HomeCauses status (Some link) reads reads' dialled in_time late before now =
+      (users : List User) × dialled × RunsBy status users in_time late (hears link.0) (speaks link.1) before now
+
   -- no call on the link failed
   abbrev pub IsSound : Option (I × O) → Type 0
   IsSound None = Unit {0}
@@ -136,14 +152,6 @@ HomeCounts WriteFault reads reads' writes writes' = Rose writes writes'
 HomeCounts status reads reads' writes writes' = Unit {0}
 
 -- ---- on the way
-
--- with which status the list of users couldn't be read, by the faults of the source
-abbrev pub FailsToRead : Status → ℕ → ℕ → Type 0
-FailsToRead (BadTranscript line reason) reads reads' = Unit {0}
-FailsToRead ReadFault reads reads' = Rose reads reads'
-FailsToRead OutOfMemory reads reads' = Unit {0}
-FailsToRead TooLong reads reads' = Unit {0}
-FailsToRead status reads reads' = ⊥
 
 -- the faults of the end that an answer goes to, by the status if the answer ends the run
 abbrev pub FailsToAnswer : Status → Outlet → Outlet → Type 0

@@ -51,6 +51,7 @@ nas_from patience before clients (line ∷ lines) =
 -- them.
 abbrev pub nas_task : ℕ → List Asked → Task
 nas_task patience clients = record {
+  longest = 140000;
   stop = λ lines. (nas_from patience 0 clients lines).stop;
   text = λ lines. (nas_from patience 0 clients lines).text;
   close = λ lines. [];

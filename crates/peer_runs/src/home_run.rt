@@ -8,7 +8,7 @@ ghost use Rattle.wire_devices.specs.Links.{Inlet, IsFreshInlet, IsFreshOutlet};
 ghost use Rattle.test_peers.specs.Users.{users_in};
 ghost use Rattle.test_peers.specs.declared.users.User.{User};
 ghost use Rattle.text_commands.specs.WholeInput.{most_whole};
-ghost use Rattle.peer_runs.specs.HomeRuns.{FailsToRead, KeepsAnswering, HomeBy, HomeCounts, IsSound, Knows, ReadsNone, Rests, RunsBy, SoFar, Takes, answer_octets, command_line as line_of, command_of as command_in, command_text};
+ghost use Rattle.peer_runs.specs.HomeRuns.{FailsToRead, KeepsAnswering, HomeBy, HomeCauses, HomeCounts, IsSound, Knows, ReadsNone, Rests, RunsBy, SoFar, Takes, answer_octets, command_line as line_of, command_of as command_in, command_text};
 ghost use Rattle.peer_runs.specs.Until.{Early, InTime, Late, TimeIsOver};
 
 use agent_status::Status;
@@ -224,6 +224,10 @@ pub fn home<R: Wait, S: Source, K: Sink, C: Clock, L: Dialer>(
     ensures begun { result.status ≢ Status.Usage }
     ensures ends { (X : List ℕ) → S.left input.old ≡ Some X
         → HomeBy L.In.told L.Out.told result.status result.link X (S.left input.new) (Dialled result.link (L.told dialer.old) (L.told dialer.new))
+        (InTime millis (C.readings clock.old) (C.readings clock.new)) (TimeIsOver millis (C.readings clock.old) (C.readings clock.new))
+        (K.written output.old) (K.written output.new) }
+    ensures causes { HomeCauses L.In.told L.Out.told result.status result.link (S.faults input.old) (S.faults input.new)
+        (Dialled result.link (L.told dialer.old) (L.told dialer.new))
         (InTime millis (C.readings clock.old) (C.readings clock.new)) (TimeIsOver millis (C.readings clock.old) (C.readings clock.new))
         (K.written output.old) (K.written output.new) }
     ensures counts { HomeCounts result.status (S.faults input.old) (S.faults input.new) (K.faults output.old) (K.faults output.new) }

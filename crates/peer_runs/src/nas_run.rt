@@ -19,7 +19,7 @@ use std::alloc::Global;
 use std::sync::Wait;
 use test_peers::{LineFault, Nas, packet_in_line};
 use text_commands::write_text;
-use text_lines::{RawFault, RawLine, RawLines};
+use text_lines::{LONGEST_LINE, RawFault, RawLine, RawLines};
 use wire_core::{NoMemory, Octets, Sink, Source};
 use wire_devices::{Clock, Datagrams};
 
@@ -209,7 +209,7 @@ pub fn nas<R: Wait, S: Source, K: Sink, C: Clock, D: Datagrams>(
         → (result ≡ Status.Done) ⊎ (result ≡ Status.OutOfMemory) }
 {
     // The memory of the reading is taken first: where it is wanting, the input is as it was.
-    let Ok(mut lines) = RawLines::new(alloc) else {
+    let Ok(mut lines) = RawLines::new(alloc, LONGEST_LINE) else {
         return Status::OutOfMemory;
     };
     let mut buf = [0; BUFFER];

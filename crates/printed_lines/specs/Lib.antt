@@ -1,3 +1,4 @@
+pub mod EventText
 pub mod SettingsText
 pub mod Show
 pub mod Text

@@ -83,9 +83,12 @@ output_words (Send octets) = codes "send" ∷ hex_text octets ∷ []
 output_words (Dropped reason) = codes "drop" ∷ decimal (reason_number reason) ∷ reason_name reason ∷ reason_words reason
 output_words (Closed cause) = codes "close" ∷ cause_words cause
 
--- words separated by one space, and the octet 0a
+-- words separated by one space, and with the octet 0a behind them
+abbrev pub line_of : List (List ℕ) → List ℕ
+line_of words = join_with_byte 32 words
+
 abbrev pub line_text : List (List ℕ) → List ℕ
-line_text words = join_with_byte 32 words ++ 10 ∷ []
+line_text words = line_of words ++ 10 ∷ []
 
 -- the line of an output of the input on this line
 abbrev pub output_line : ℕ → Output → List ℕ

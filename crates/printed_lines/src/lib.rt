@@ -1,10 +1,12 @@
-//! What is printed: the lines of outputs, of settings, and of packets and messages that are shown (profile).
+//! What is printed: the lines of outputs, of what comes in, of settings, and of packets and messages that are shown (profile).
 #![tactic(auto)]
 
+mod event_printing;
 mod printing;
 mod settings_printing;
 mod showing;
 
+pub use event_printing::print_event;
 pub use printing::{
     print, print_control, print_drop, print_end, print_end_with_controls, push_digits, with_hex,
 };

@@ -50,7 +50,8 @@ fn send_line(alloc: Global, line: u64, octets: &[u8]) -> Result<Octets, NoMemory
     with_hex(format!(in alloc; "{line} send ")?, octets)
 }
 
-fn via_name(via: Via) -> &'static str
+/// The name of a port.
+pub(crate) fn via_name(via: Via) -> &'static str
     ensures { result.now ≡ text.via_name via }
 {
     match via {

@@ -14,12 +14,9 @@ use diameter_avp::{Avp, AvpFault, avps};
 use diameter_message::{Header, Message, MessageFault, parse};
 use radius_packet::{Attribute, Packet, PacketFault};
 use std::alloc::Global;
-use text_lines::WordFault;
 use text_lines::words::{read_hex, words_of};
+use text_lines::{LONGEST_LINE, WordFault};
 use wire_core::{NoMemory, Octets};
-
-/// How many octets a line has at most.
-const LONGEST_LINE: usize = 140_000;
 
 /// What the octets of a line are.
 #[derive(Clone, Copy)]

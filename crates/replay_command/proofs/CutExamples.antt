@@ -5,7 +5,7 @@ use Rattle.std.specs.Net.Reader.{read_number, read_octet, read_ipv4}
 use Rattle.wire_core.specs.Numbers.{number}
 use Rattle.hex.specs.Hex.{decode_pairs}
 use Rattle.agent_settings.specs.Config.{are_settings_in_limits}
-use Rattle.generated_logins.specs.Generator.{link_line}
+use Rattle.printed_lines.specs.EventText.{link_line}
 use Rattle.replay_command.specs.Cuts.{GivesSame}
 use Rattle.transcript.specs.Reading.{read_from, start}
 use Rattle.replay_command.proofs.CutLemmas.{link-lines-cut}

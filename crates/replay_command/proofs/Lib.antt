@@ -1,5 +1,7 @@
 pub mod CutExamples
 pub mod CutLemmas
+pub mod GeneratedLemmas
 pub mod MeasureLemmas
+pub mod ReplayLemmas
 pub mod SessionLemmas
 pub mod StageLemmas

@@ -5,7 +5,7 @@ use Rattle.agent_events.specs.declared.events.Input.{Input}
 use Rattle.agent_events.specs.declared.events.Output.{Output}
 use Rattle.agent_core.specs.Places.{Place}
 use Rattle.agent_core.specs.History.{place}
-use Rattle.generated_logins.specs.Generator.{link_line}
+use Rattle.printed_lines.specs.EventText.{link_line}
 use Rattle.transcript.specs.Grammar.{IsHex, IsNumber}
 use Rattle.transcript.specs.Reading.{Said, beginning, read_from}
 use Rattle.transcript.specs.Told.{given_by}

@@ -1,4 +1,5 @@
 pub mod Cuts
+pub mod GeneratorLaws
 pub mod Measured
 pub mod Replay
 pub mod Run

@@ -5,6 +5,7 @@ ghost use Rattle.text_commands.specs.Generated.{WriteCounts};
 ghost use Rattle.replay_command.specs.Measured.{MeasuresBy};
 ghost use Rattle.replay_command.specs.Replay.{Replays, replay_task};
 
+use crate::laws::generated_lines_are_sound;
 use crate::replaying::{Replaying, start_replay};
 use agent_status::Status;
 use generated_logins::Generator;
@@ -51,7 +52,7 @@ pub fn measure<K: Sink>(
     ensures ends { MeasuresBy result count seed (K.written output.old) (K.written output.new) }
     ensures counts { WriteCounts result (K.faults output.old) (K.faults output.new) }
 {
-    transcript::generated_lines_are_sound();
+    generated_lines_are_sound();
     let Ok(mut work) = start_replay(alloc, random) else {
         return Status::OutOfMemory;
     };

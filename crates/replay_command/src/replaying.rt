@@ -2,8 +2,8 @@
 
 ghost use Rattle.std.specs.Prelude.{◌≡◌, ◌≢◌, ◌≤◌, ◌⊎◌, List, [], ℕ, Some, None, IfOk, length};
 ghost use Rattle.wire_core.specs.Counts.{Rose};
-ghost use Rattle.replay_command.specs.Replay.{Replays, replay_task};
-ghost use Rattle.text_commands.specs.Tasks.{EndsBy, EndsCounts};
+ghost use Rattle.replay_command.specs.Replay.{IsReplayed, Replays, replay_task};
+ghost use Rattle.text_commands.specs.Tasks.{EndsBy, EndsCounts, IsLinesEnd};
 ghost use Rattle.text_lines.specs.Streams.{most_octets};
 ghost use Rattle.text_lines.specs.Words.{lines_of};
 
@@ -33,8 +33,11 @@ pub fn replay<S: Source, K: Sink>(
     output: &mut K,
 ) -> Status
     ensures begun { result ≢ Status.Usage }
+    ensures known { IsLinesEnd result }
     ensures ends { (X : List ℕ) → S.left input.old ≡ Some X
         → EndsBy replay_task result X (S.left input.new) (K.written output.old) (K.written output.new) }
+    ensures done { (X : List ℕ) → S.left input.old ≡ Some X → result ≡ Status.Done
+        → IsReplayed X (S.left input.new) (K.written output.old) (K.written output.new) }
     ensures counts { EndsCounts result (S.ends input.old) (S.ends input.new) (S.faults input.old) (S.faults input.new)
         (K.faults output.old) (K.faults output.new) }
     ensures complete { (X : List ℕ) → S.left input.old ≡ Some X → replay_task.stop (lines_of X) ≡ None → length X ≤ most_octets

@@ -110,6 +110,7 @@ end_text stage =
 
 abbrev pub reverse_task : Task
 reverse_task = record {
+  longest = 140000;
   stop = λ lines. (printed_from start lines).stop;
   text = λ lines. (printed_from start lines).text;
   close = λ lines. end_text (printed_from start lines).at.stage;

@@ -1,7 +1,7 @@
 -- The lines of a script: settings, and then what comes from the home side and from the RADIUS server (profile).
 use Rattle.std.specs.Prelude.{ℕ, Bool, true, false, nat_le, nat_lt, not, ◌==◌, ◌&&◌, List, [], ◌∷◌, length, codes, Option, Some, None, Result, Ok, Err, if◌then◌else◌}
 use Rattle.std.specs.Str.{bytes_eq}
-use Rattle.agent_config.specs.Values.{address_in}
+use Rattle.address_text.specs.Address.{address_in}
 use Rattle.agent_settings.specs.Config.{is_between, is_name}
 use Rattle.text_lines.specs.Words.{◌>>=◌, hex_word, number_word, words_of}
 use Rattle.reverse_map.specs.declared.own.Reverse.{Reverse}

@@ -3,7 +3,7 @@
 ghost use Rattle.std.specs.Prelude.{◌≡◌, ◌≢◌, ◌≤◌, ◌⊎◌, List, ℕ, Some, None, length};
 ghost use Rattle.wire_core.specs.Counts.{Rose};
 ghost use Rattle.reverse_script.specs.Printed.{reverse_task};
-ghost use Rattle.text_commands.specs.Tasks.{EndsBy, EndsCounts};
+ghost use Rattle.text_commands.specs.Tasks.{EndsBy, EndsCounts, IsLinesEnd};
 ghost use Rattle.text_lines.specs.Streams.{most_octets};
 ghost use Rattle.text_lines.specs.Words.{lines_of};
 
@@ -17,6 +17,7 @@ use wire_core::{Sink, Source};
 /// the end line. Each line's outputs are written before the next line is read.
 pub fn reverse<S: Source, K: Sink>(alloc: Global, input: &mut S, output: &mut K) -> Status
     ensures begun { result ≢ Status.Usage }
+    ensures known { IsLinesEnd result }
     ensures ends { (X : List ℕ) → S.left input.old ≡ Some X
         → EndsBy reverse_task result X (S.left input.new) (K.written output.old) (K.written output.new) }
     ensures counts { EndsCounts result (S.ends input.old) (S.ends input.new) (S.faults input.old) (S.faults input.new)

@@ -11,12 +11,9 @@ use crate::kind::{EventName, Kind, kind_of};
 use reverse_core::ReverseInput;
 use reverse_map::Reverse;
 use std::alloc::Global;
-use text_lines::WordFault;
 use text_lines::words::{read_address, read_hex, read_number, read_u16, words_of};
+use text_lines::{LONGEST_LINE, WordFault};
 use wire_core::{NoMemory, Octets, is_identity};
-
-/// How many octets a line has at most.
-const LONGEST_LINE: usize = 140_000;
 
 /// How many octets a message has at most.
 const LONGEST_MESSAGE: usize = 65_536;

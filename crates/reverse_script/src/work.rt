@@ -21,6 +21,7 @@ use reverse_core::{ReverseCore, ReverseInput};
 use reverse_map::Reverse;
 use std::alloc::Global;
 use text_commands::Work;
+use text_lines::LONGEST_LINE;
 use wire_core::{Put, Sink};
 
 /// What the lines so far made: the core once settings were told, and how many lines and outputs there were.
@@ -190,6 +191,10 @@ impl Work for ReverseWork {
             Put::Done => Status::Done,
             Put::Failed => Status::WriteFault,
         }
+    }
+
+    fn longest_line(&self) -> usize {
+        LONGEST_LINE
     }
 
     fn too_long(&self) -> Status {

@@ -15,6 +15,8 @@ mod links;
 #[cfg(test)]
 mod nas_runs;
 #[cfg(test)]
+mod served_lines;
+#[cfg(test)]
 mod server;
 #[cfg(test)]
 mod turns;

@@ -86,7 +86,7 @@ module _ {T : Type 0} where
           faults = subst (λ n. RoseBy n d.faults f.faults) (sym all.many) all.faults;
           grows = all.grows;
           failed = λ more. all.failed (omega arith);
-          ends = (omega (arith, all.row), tick-last turn so_far.mine took);
+          ends = (omega (arith, all.row), omega (arith, all.row, few), tick-last turn so_far.mine took);
         },
       )
 

@@ -9,10 +9,12 @@ use Rattle.peer_machine.specs.declared.LinkCause.{LinkCause}
 use Rattle.agent_events.specs.declared.events.Input.TheVariants.{Drain}
 use Rattle.turnstile.specs.Turns.{of}
 use Rattle.server_workers.specs.declared.links.Pair.{Pair}
+use Rattle.server_workers.specs.declared.running.RunEnd.{RunEnd}
+use Rattle.server_workers.specs.declared.running.RunEnd.TheVariants as run
 use Rattle.server_workers.specs.Entries.{EachEntry, EndsWith, RunTurn, downs, sends}
 use Rattle.server_workers.specs.LinkWriting.{Wrote}
-use Rattle.server_workers.specs.Running.{ClosedFor}
-use Rattle.server_workers.specs.Serving.{AllBut, LinkRead, MayWrite, Span, Spanned, Spans}
+use Rattle.server_workers.specs.Running.{ClosedFor, HasReaders}
+use Rattle.server_workers.specs.Serving.{AllBut, FirstWasRead, LinkRead, MayWrite, Span, Spanned, Spans, WasRead}
 use Rattle.server_workers.specs.Serving.Spans.{no_more, one_more}
 use Rattle.server_workers.specs.Segments.{IsClosed, ServerTurn, flat}
 use Rattle.server_workers.proofs.DialLemmas.{each-append}
@@ -78,6 +80,51 @@ all-grow P [] more grows all = all
 all-grow P (seg ∷ []) more grows all = All-cons P (seg ++ more) [] (grows seg (All-head P seg [] all)) (All-nil P)
 all-grow P (seg ∷ next ∷ segs) more grows all =
     All-cons P seg (grow (next ∷ segs) more) (All-head P seg (next ∷ segs) all) (all-grow P (next ∷ segs) more grows (All-tail P seg (next ∷ segs) all))
+
+-- ---- spans that were read
+
+none-left : (xs ys : List RunTurn) → xs ++ ys ≡ [] → xs ≡ []
+none-left [] ys is = refl
+none-left (x ∷ xs) ys is = let e : x ∷ (xs ++ ys) ≡ [] = is in cc
+
+pub read-grow : (seg more : List ServerTurn) → WasRead seg → WasRead (seg ++ more)
+read-grow seg more read = λ none. read (none-left (of 3 seg) (of 3 more) (sym (of-append 3 seg more) ∙ none))
+
+pub first-grow : (segs : List (List ServerTurn)) (more : List ServerTurn) → FirstWasRead segs → FirstWasRead (grow segs more)
+first-grow [] more read = absurd read
+first-grow (seg ∷ []) more read = read-grow seg more read
+first-grow (seg ∷ next ∷ segs) more read = read
+
+pub first-all : (segs : List (List ServerTurn)) → 0 < length segs → All WasRead segs → FirstWasRead segs
+first-all [] some all = absurd (omega (arith, some))
+first-all (seg ∷ segs) some all = All-head WasRead seg segs all
+
+pub first-push : (segs : List (List ServerTurn)) (seg : List ServerTurn) → FirstWasRead segs → FirstWasRead (segs ++ seg ∷ [])
+first-push [] seg read = absurd read
+first-push (x ∷ segs) seg read = read
+
+pub all_but-of : {A : Type 0} (P : A → Type 0) (xs : List A) → All P xs → AllBut P xs
+all_but-of P [] all = tt
+all_but-of P (x ∷ []) all = tt
+all_but-of P (x ∷ y ∷ xs) all = (All-head P x (y ∷ xs) all, all_but-of P (y ∷ xs) (All-tail P x (y ∷ xs) all))
+
+pub readers-all : (end : RunEnd) (segs : List (List ServerTurn)) → All WasRead segs → HasReaders end segs
+readers-all run.NoThread segs all = all_but-of WasRead segs all
+readers-all run.NoMemory segs all = all_but-of WasRead segs all
+readers-all run.Closed segs all = all
+readers-all run.Left segs all = all
+readers-all run.Worn segs all = all
+readers-all run.LinkFault segs all = all
+
+pub readers-grow : (end : RunEnd) (segs : List (List ServerTurn)) (more : List ServerTurn) → HasReaders end segs → HasReaders end (grow segs more)
+readers-grow run.NoThread segs more read = all_but-grow WasRead segs more read
+readers-grow run.NoMemory segs more read = all_but-grow WasRead segs more read
+readers-grow run.Closed segs more read = all-grow WasRead segs more (λ seg r. read-grow seg more r) read
+readers-grow run.Left segs more read = all-grow WasRead segs more (λ seg r. read-grow seg more r) read
+readers-grow run.Worn segs more read = all-grow WasRead segs more (λ seg r. read-grow seg more r) read
+readers-grow run.LinkFault segs more read = all-grow WasRead segs more (λ seg r. read-grow seg more r) read
+
+-- ---- spans that were closed
 
 pub closed-grow : (seg more : List ServerTurn) → IsClosed seg → IsClosed (seg ++ more)
 closed-grow seg more c = record {

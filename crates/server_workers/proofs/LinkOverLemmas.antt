@@ -1,7 +1,7 @@
 -- What is known when a link is over.
 use Rattle.std.proofs.Common.{◌≡◌, ℕ, ◌+◌, ◌-◌, ◌^◌, min, Bool, true, false, not, ◌&&◌, if◌then◌else◌, List, [], ◌∷◌, ◌++◌, length, All, Option, Some, None, refl, sym, ap, ◌∙◌, subst, append_assoc, length-append, vec_capacity, inl, arith}
 use Rattle.std.proofs.lemmas.List.{append_cancel_left}
-use Rattle.std.proofs.lemmas.List.Elements.{All-head, All-tail}
+use Rattle.std.proofs.lemmas.List.Elements.{All-head, All-push, All-tail}
 use Rattle.std.proofs.lemmas.Grind.{flat_map-append}
 use Rattle.atomic_table.specs.Seated.{TableId}
 use Rattle.radius_packet.specs.declared.reasons.Via.TheVariants.{Auth, Acct}
@@ -27,11 +27,11 @@ use Rattle.server_workers.specs.declared.workers.Worker.{Worker}
 use Rattle.server_workers.specs.declared.workers.Worker.TheVariants as worker
 use Rattle.server_workers.specs.Entries.{EachEntry, RunTurn, entry_replies, is_tick, replies_by, reply_by, ticks, turn_of}
 use Rattle.server_workers.specs.Going.{Went}
-use Rattle.server_workers.specs.LinkReading.{ServedLink}
+use Rattle.server_workers.specs.LinkReading.{EndsAt, ServedLink}
 use Rattle.server_workers.specs.LinkWriting.{IsWriterAsk, KeepsWriting, LastTurns, TakesLeave, Wrote, WroteLink, round}
 use Rattle.server_workers.specs.Running.{ClosedFor, EndsLink, LastDrain, LeftAtEnd, NoLeave, Over, ReaderRan, StartedAs}
 use Rattle.agent_events.specs.Kinds.{is_leave}
-use Rattle.server_workers.specs.Serving.{AllBut, MayWrite, Span, Spans}
+use Rattle.server_workers.specs.Serving.{AllBut, MayWrite, Span, Spans, WasRead}
 use Rattle.server_workers.specs.Serving.Spans.{no_more, one_more}
 use Rattle.server_workers.specs.Segments.{IsClosed, ServerTurn, flat, is_beginning}
 use Rattle.server_workers.proofs.DialLemmas.{each-append}
@@ -221,6 +221,15 @@ module _ (end : WriterEnd) (now : Bool) (own mine : List RunTurn) (last : LastTu
     );
   }
 
+-- ---- the turns of a reader that ran
+
+nothing-ends : (front : List RunTurn) (x : RunTurn) → [] ≡ front ++ x ∷ [] → ⊥
+nothing-ends [] x is = cc
+nothing-ends (y ∷ front) x is = cc
+
+was-read : {P : Input → Type 0} (mine : List RunTurn) → EndsAt P mine → mine ≡ [] → ⊥
+was-read mine ends none = nothing-ends ends.front (Some (ends.ask, ends.heard)) (sym none ∙ ends.whole)
+
 -- ---- the link among all
 
 module _ {I O : Type 0} (hears : I → Inlet) (speaks : O → Outlet) where
@@ -316,6 +325,7 @@ module _ {I O : Type 0} (hears : I → Inlet) (speaks : O → Outlet) where
             };
             some = omega (arith, length-push b.segs seg);
             closed = all_but-all IsClosed b.segs seg b.closed;
+            read = All-push WasRead b.segs seg b.read (λ none. was-read read.mine read.served.ends (sym t.reads ∙ none));
             ends = ends-link end wrote.sound b.segs started.opened.opened t.rest k''.seen (of 0 k.seen) wrote.mine t.own own_now quiet wrote.last;
           };
           tally = record {

@@ -33,14 +33,14 @@ use Rattle.server_workers.specs.Entries.{EachEntry, EndsWith, RunTurn, downs, ha
 use Rattle.server_workers.specs.Going.{SeenLast, Went}
 use Rattle.server_workers.specs.LinkReading.{LinkMayTake}
 use Rattle.server_workers.specs.LinkWriting.{Wrote}
-use Rattle.server_workers.specs.Running.{Between, ClosedFor, ComesNext, Dialled, Ends, EndsLink, EndsRun, end_after, HasSpare, IsFinishedTick, LastDrain, LateDrainsAreEmpty, LeftAtEnd, LinkOpened, NoLeave, Opened, Over, Rests, RoseBy, RunOver, Started, Tally, TakesLeaveAlone, Ticked}
+use Rattle.server_workers.specs.Running.{Between, ClosedFor, ComesNext, Dialled, Ends, EndsLink, EndsRun, end_after, HasReaders, HasSpare, Keeps, KeepsAll, KeepsPair, counted, IsFinishedTick, LastDrain, LateDrainsAreEmpty, LeftAtEnd, LinkOpened, NoLeave, Opened, Over, Rests, RoseBy, RunOver, Started, Tally, TakesLeaveAlone, Ticked}
 use Rattle.agent_events.specs.Kinds.{is_leave}
-use Rattle.server_workers.specs.Serving.{AllBut, AreUnopened, IsTick, LinkRead, MayWrite, Span, Spanned, Spans}
+use Rattle.server_workers.specs.Serving.{AllBut, AreUnopened, IsTick, LinkRead, MayWrite, Span, Spanned, Spans, WasRead}
 use Rattle.server_workers.specs.Serving.Spans.{no_more, one_more}
 use Rattle.server_workers.specs.Segments.{IsClosed, ServerTurn, flat, is_beginning}
 use Rattle.server_workers.proofs.DialLemmas.{each-append}
 use Rattle.server_workers.proofs.GoingLemmas.{went-on}
-use Rattle.server_workers.proofs.GrowthLemmas.{MayFollow, all-grow, all_but-grow, closed-grow, closed_for-grow, ends-grow, grow, length-grow, others-follow, spanned-grow, wrote-still}
+use Rattle.server_workers.proofs.GrowthLemmas.{MayFollow, all-grow, all_but-grow, all_but-of, closed-grow, closed_for-grow, ends-grow, first-all, first-grow, first-push, grow, length-grow, others-follow, read-grow, readers-all, readers-grow, spanned-grow, wrote-still}
 use Rattle.server_workers.proofs.LinkOverLemmas.{all_but-all, each-weaker, length-push, spans-push}
 use Rattle.server_workers.proofs.TurnLemmas.{of-append, flat-push}
 
@@ -262,12 +262,31 @@ ticked-dials k l mine before now numbers went rose grows =
     let t = writer-turns k l mine numbers went in
     record { more = mine; whole = t.own_now; counted = let few = few-ticks mine in omega (arith, rose, few); grows = grows }
 
--- ---- closed links
+-- ---- links that were made
 
-pub all_but-of : {A : Type 0} (P : A → Type 0) (xs : List A) → All P xs → AllBut P xs
-all_but-of P [] all = tt
-all_but-of P (x ∷ []) all = tt
-all_but-of P (x ∷ y ∷ xs) all = (All-head P x (y ∷ xs) all, all_but-of P (y ∷ xs) (All-tail P x (y ∷ xs) all))
+pub keeps-same : (links made made' : ℕ) → made' ≡ made → Keeps links links made made'
+keeps-same links made made' same = record { more = 0; links_are = omega arith; made_is = omega (arith, same) }
+
+pub keeps-pair : {T D I O : Type 0} (r : Next T D I O) (links links' made made' : ℕ) → KeepsPair r links links' → made' ≡ counted made 1 → KeepsAll r links links' made made'
+keeps-pair (next.Go live) links links' made made' kept one = (kept, one)
+keeps-pair (next.Stop end twins) links links' made made' kept one = record { more = 1; links_are = kept; made_is = one }
+
+-- one more link is over, and one more was made
+pub keeps-one : (a b c x y z : ℕ) → Keeps a b x y → (c ≡ b + 1) × (z ≡ counted y 1) → Keeps a c x z
+keeps-one a b c x y z kept (links, made) = record {
+  more = kept.more + 1;
+  links_are = omega (arith, links, kept.links_are);
+  made_is = omega (arith, made, kept.made_is);
+}
+
+pub keeps-on : (a b c x y z : ℕ) → Keeps a b x y → Keeps (b + 1) c y z → Keeps (a + 1) c x z
+keeps-on a b c x y z one two = record {
+  more = one.more + two.more;
+  links_are = omega (arith, one.links_are, two.links_are);
+  made_is = omega (arith, one.made_is, two.made_is);
+}
+
+-- ---- closed links
 
 pub late-on : (mine more : List RunTurn) → LastDrain mine → EachEntry Begins-none more → LastDrain (mine ++ more)
 late-on mine more late none = record {
@@ -330,6 +349,7 @@ module _ {I O : Type 0} (hears : I → Inlet) (speaks : O → Outlet) where
       segs = grow b.segs t.rest;
       spanned = spanned-on pairs b.segs k k' mine n r t still (between-some pairs k.seen n r some b) b.spanned;
       closed = all-grow IsClosed b.segs t.rest (λ seg c. closed-grow seg t.rest c) b.closed;
+      read = all-grow WasRead b.segs t.rest (λ seg r. read-grow seg t.rest r) b.read;
       quiet = subst NoLeave (sym t.own_now) (each-append Stay (of 0 k.seen) mine b.quiet quiet);
     }
 
@@ -351,6 +371,8 @@ module _ {I O : Type 0} (hears : I → Inlet) (speaks : O → Outlet) where
           some = subst (λ m. 0 < m) (sym (length-grow b.segs t.rest)) some_seg;
           few = few;
           closed = all_but-grow IsClosed b.segs t.rest (all_but-of IsClosed b.segs b.closed);
+          first = first-grow b.segs t.rest (first-all b.segs some_seg b.read);
+          read = readers-grow end b.segs t.rest (readers-all end b.segs b.read);
           ends = ends;
         }
 
@@ -411,12 +433,14 @@ module _ {I O : Type 0} (hears : I → Inlet) (speaks : O → Outlet) where
           out = s.out;
           retries = s.retries;
           few = few;
+          some = s.some;
           opened = record {
             before = k.seen ++ last.between;
             between = record {
               segs = grow b.segs last.between;
               spanned = spanned-grow hears speaks past.pairs.items b.segs k.seen last.between s.out s.retries may some_seg b.spanned;
               closed = all-grow IsClosed b.segs last.between (λ seg c. closed-grow seg last.between c) b.closed;
+              read = all-grow WasRead b.segs last.between (λ seg r. read-grow seg last.between r) b.read;
               quiet = subst NoLeave (sym (of-append 0 k.seen last.between ∙ ap (λ ts. of 0 k.seen ++ ts) none ∙ append-nil (of 0 k.seen))) b.quiet;
             };
             opened = opened;
@@ -562,7 +586,7 @@ module _ {I O : Type 0} (hears : I → Inlet) (speaks : O → Outlet) where
         by gone =
             let whole = went-on mine (Some (inputs.Leave, left) ∷ Some (inputs.Drain, last) ∷ []) k l m dials gone in
             ends-by run.Left before now refused k m twins past past [] all s whole (λ late. still late (writer-turns k m all s.numbers whole)) ticked
-            d.grows (λ full. d.failed (omega (arith, low, full))) (sym (append-nil past.pairs.items)) refl refl refl tt refl s.few (λ t. at-end t d.ends.1)
+            d.grows (λ full. d.failed (omega (arith, low, full))) (sym (append-nil past.pairs.items)) refl refl refl tt refl s.few (λ t. at-end t d.ends.2)
     ends-finished run.NoMemory before now refused k l m twins past mine low s dials d (more, went, how) = by more how went
       where
         end-by : (more : List RunTurn) → IsStill more → EachEntry (λ ask heard. is_tick ask ≡ false) more → Went more l m → Ends hears speaks told run.NoMemory before now refused k m twins past
@@ -614,10 +638,12 @@ module _ {I O : Type 0} (hears : I → Inlet) (speaks : O → Outlet) where
         → past'.pairs.items ≡ past.pairs.items ++ pair ∷ [] → vec_capacity past'.pairs ≡ vec_capacity past.pairs → past'.lost ≡ past.lost → past'.again ≡ past.again
         → IsFreshInlet (hears pair.link_in) → IsFreshOutlet (speaks pair.link_out)
         → ((segs : List (List ServerTurn)) (seen : List ServerTurn) → EndsRun end dials.row refused segs seen) → HasSpare {A = Pair I O} end []
+        → ((segs : List (List ServerTurn)) → AllBut WasRead segs → HasReaders end segs)
         → Ends hears speaks told end dials dials refused k m twins' past'
-    ends-unstarted end dials refused k l m twins twins' past past' pair left low s same went alike pairs room lost again fresh_in fresh_out ends only =
+    ends-unstarted end dials refused k l m twins twins' past past' pair left low s same went alike pairs room lost again fresh_in fresh_out ends only read =
         let t = writer-turns l m (turn_of inputs.Leave left ∷ []) same.numbers went in
         let b = s.opened.between in
+        let some_seg = between-some past.pairs.items s.opened.before s.out s.retries s.some b in
         let up : ServerTurn = (0, Some (inputs.Up, s.opened.opened)) in
         let seg : List ServerTurn = up ∷ t.rest in
         let still = still-leave left in
@@ -670,6 +696,8 @@ module _ {I O : Type 0} (hears : I → Inlet) (speaks : O → Outlet) where
             some = omega (arith, length-push b.segs seg);
             few = omega (arith, ap length pairs, length-push past.pairs.items pair, s.few);
             closed = all_but-all IsClosed b.segs seg b.closed;
+            first = first-push b.segs seg (first-all b.segs some_seg b.read);
+            read = read (b.segs ++ seg ∷ []) (all_but-all WasRead b.segs seg b.read);
             ends = ends (b.segs ++ seg ∷ []) m.seen;
           };
           tally = record {
@@ -731,6 +759,8 @@ module _ {I O : Type 0} (hears : I → Inlet) (speaks : O → Outlet) where
         some = o.over.some;
         few = o.few;
         closed = o.over.closed;
+        first = first-all o.over.segs o.over.some o.over.read;
+        read = readers-all last o.over.segs o.over.read;
         ends = by end is o.over.ends;
       };
       tally = o.tally;
@@ -773,6 +803,7 @@ module _ {I O : Type 0} (hears : I → Inlet) (speaks : O → Outlet) where
             segs = o.over.segs;
             spanned = o.over.spanned;
             closed = all-closed o.over.segs cause goes_on o.over.closed ends.1;
+            read = o.over.read;
             quiet = ends.0;
           };
           late = ends.2;

@@ -1,5 +1,5 @@
 -- How the writer goes from link to link.
-use Rattle.std.specs.Prelude.{◌≡◌, ℕ, ◌+◌, ◌-◌, ◌^◌, ◌<◌, ◌≤◌, ◌⊎◌, min, Bool, true, false, List, [], ◌∷◌, ◌++◌, length, All, Option, Some, None, vec_capacity, if◌then◌else◌}
+use Rattle.std.specs.Prelude.{◌≡◌, ℕ, ◌+◌, ◌-◌, ◌^◌, ◌<◌, ◌≤◌, ◌⊎◌, max, min, Bool, true, false, List, [], ◌∷◌, ◌++◌, length, All, Option, Some, None, vec_capacity, if◌then◌else◌}
 use Rattle.wire_core.specs.Counts.{Rose}
 use Rattle.radius_packet.specs.declared.reasons.Via.TheVariants.{Auth, Acct}
 use Rattle.peer_machine.specs.declared.LinkCause.{LinkCause}
@@ -34,7 +34,7 @@ use Rattle.server_workers.specs.Entries.{EachEntry, EndsWith, RunTurn, is_final,
 use Rattle.server_workers.specs.Going.{Went}
 use Rattle.server_workers.specs.LinkReading.{LinkMayTake, ReadsLink, sight}
 use Rattle.agent_events.specs.Kinds.{is_leave}
-use Rattle.server_workers.specs.Serving.{AllBut, AreUnopened, IsTick, Spanned}
+use Rattle.server_workers.specs.Serving.{AllBut, AreUnopened, FirstWasRead, IsTick, Spanned, WasRead}
 use Rattle.server_workers.specs.Segments.{IsClosed, ServerTurn, is_beginning}
 
 -- ---- the writer's turns
@@ -146,6 +146,50 @@ EndsRun run.LinkFault row refused segs seen = row ≡ 16
 EndsRun run.NoThread row refused segs seen = refused
 EndsRun run.NoMemory row refused segs seen = Unit {0}
 
+-- the reader of each link took turns, but that of the last where it couldn't be started
+abbrev pub HasReaders : RunEnd → List (List ServerTurn) → Type 0
+HasReaders run.NoThread segs = AllBut WasRead segs
+HasReaders run.NoMemory segs = AllBut WasRead segs
+HasReaders end segs = All WasRead segs
+
+-- A run ends so where the crew refused a start, and where 16 dials in a row failed; the crew's count of refused starts was
+-- `starts` and is `starts'`.
+pub record StopsFor (end : RunEnd) (row starts starts' : ℕ) : Type 0 where
+  pub threads : starts < starts' → end ≡ run.NoThread
+  pub dials : row ≡ 16 → end ≡ run.LinkFault
+
+abbrev pub StopsAs : {T D I O : Type 0} → Next T D I O → ℕ → ℕ → ℕ → Type 0
+StopsAs {T} {D} {I} {O} (next.Go live) row starts starts' = Unit {0}
+StopsAs {T} {D} {I} {O} (next.Stop end twins) row starts starts' = StopsFor end row starts starts'
+
+-- ---- links that were made
+
+-- a count, so many later; a u64's count stands still at its end
+abbrev pub counted : ℕ → ℕ → ℕ
+counted before n = max before (min (before + n) (2 ^ 64 - 1))
+
+-- a dialling made a link, or none
+abbrev pub MadeBy : {I O : Type 0} → Dialling I O → ℕ → ℕ → Type 0
+MadeBy {I} {O} (dialling.Made link_in link_out) before now = now ≡ counted before 1
+MadeBy {I} {O} dialling.Finished before now = now ≡ before
+MadeBy {I} {O} dialling.Failed before now = now ≡ before
+
+-- as many links were put behind those that are over as the dialer made
+pub record Keeps (links links' made made' : ℕ) : Type 0 where
+  pub more : ℕ
+  pub links_are : links' ≡ links + more
+  pub made_is : made' ≡ counted made more
+
+-- the same, but a link that goes on is not yet over
+abbrev pub KeepsAll : {T D I O : Type 0} → Next T D I O → ℕ → ℕ → ℕ → ℕ → Type 0
+KeepsAll {T} {D} {I} {O} (next.Go live) links links' made made' = (links' ≡ links) × (made' ≡ counted made 1)
+KeepsAll {T} {D} {I} {O} (next.Stop end twins) links links' made made' = Keeps links links' made made'
+
+-- a link that was made goes on or is over
+abbrev pub KeepsPair : {T D I O : Type 0} → Next T D I O → ℕ → ℕ → Type 0
+KeepsPair {T} {D} {I} {O} (next.Go live) links links' = links' ≡ links
+KeepsPair {T} {D} {I} {O} (next.Stop end twins) links links' = links' ≡ links + 1
+
 -- only where memory was wanting are links spare
 abbrev pub HasSpare : {A : Type 0} → RunEnd → List A → Type 0
 HasSpare {A} run.NoMemory spare = Unit {0}
@@ -156,7 +200,7 @@ HasSpare {A} end spare = spare ≡ []
 module _ {I O : Type 0} (hears : I → Inlet) (speaks : O → Outlet) where
   abbrev pub DialsBy : Dialling I O → List RunTurn → Dials → Type 0
   DialsBy (dialling.Made link_in link_out) mine dials = (dials.row ≡ 0) × IsFreshInlet (hears link_in) × IsFreshOutlet (speaks link_out)
-  DialsBy dialling.Finished mine dials = (0 < dials.row) × EndsWith IsFinishedTick mine
+  DialsBy dialling.Finished mine dials = (0 < dials.row) × (dials.row < 16) × EndsWith IsFinishedTick mine
   DialsBy dialling.Failed mine dials = dials.row ≡ 16
 
   -- A dialling: each dial that failed was followed by a Tick. The count of faults never fell, and it rose where more dials
@@ -175,6 +219,7 @@ module _ {I O : Type 0} (hears : I → Inlet) (speaks : O → Outlet) where
     pub segs : List (List ServerTurn)
     pub spanned : Spanned hears speaks pairs segs seen out retries
     pub closed : All IsClosed segs
+    pub read : All WasRead segs
     pub quiet : NoLeave (of 0 seen)
 
   -- the Up of the next link came last
@@ -190,6 +235,7 @@ module _ {I O : Type 0} (hears : I → Inlet) (speaks : O → Outlet) where
     pub spanned : Spanned hears speaks pairs segs seen out retries
     pub some : 0 < length segs
     pub closed : AllBut IsClosed segs
+    pub read : All WasRead segs
     pub ends : EndsLink end segs seen
 
   -- ---- the end
@@ -206,6 +252,8 @@ module _ {I O : Type 0} (hears : I → Inlet) (speaks : O → Outlet) where
     pub some : 0 < length segs
     pub few : length pairs ≤ 256
     pub closed : AllBut IsClosed segs
+    pub first : FirstWasRead segs
+    pub read : HasReaders end segs
     pub ends : EndsRun end row refused segs seen
 
   -- ---- what the writer holds
@@ -259,6 +307,7 @@ module _ {I O : Type 0} (hears : I → Inlet) (speaks : O → Outlet) where
       pub out : ℕ
       pub retries : ℕ
       pub few : length past.pairs.items < 256
+      pub some : 0 < length past.pairs.items
       pub opened : Opened past.pairs.items k.seen out retries
       pub tally : Tally told past twins.auth twins.acct k.seen out retries
 

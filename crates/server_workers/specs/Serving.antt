@@ -1,6 +1,6 @@
 -- What the server did: by all turns, and by what its devices tell. Passes have the numbers 0 of the writer, 1 and 2 of the
 -- readers of the sockets, and 3 of the readers of links.
-use Rattle.std.specs.Prelude.{◌≡◌, ℕ, ◌+◌, ◌⊎◌, Bool, true, false, List, [], ◌∷◌, ◌++◌, Some, None}
+use Rattle.std.specs.Prelude.{◌≡◌, ◌≢◌, ℕ, ◌+◌, ◌⊎◌, Bool, true, false, List, [], ◌∷◌, ◌++◌, Some, None}
 use Rattle.wire_devices.specs.Links.{Inlet, Outlet, IsFreshInlet, IsFreshOutlet}
 use Rattle.agent_events.specs.declared.events.Input.{Input}
 use Rattle.agent_events.specs.declared.events.Input.TheVariants.{Up, Down, Tick, Drain, Leave}
@@ -36,6 +36,14 @@ is_leave_entry (Some (Leave, heard)) = true
 is_leave_entry (Some (ask, heard)) = false
 
 -- ---- spans
+
+-- the reader of the span's link took turns
+abbrev pub WasRead : List ServerTurn → Type 0
+WasRead seg = of 3 seg ≢ []
+
+abbrev pub FirstWasRead : List (List ServerTurn) → Type 0
+FirstWasRead [] = ⊥
+FirstWasRead (seg ∷ segs) = WasRead seg
 
 -- each but the last has P
 abbrev pub AllBut : {A : Type 0} → (A → Type 0) → List A → Type 0

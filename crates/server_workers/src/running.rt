@@ -11,7 +11,7 @@ ghost use Rattle.turnstile.specs.Turns.{of};
 ghost use Rattle.agent_events.specs.declared.events.Input.TheVariants.{Leave};
 ghost use Rattle.server_workers.specs.Entries.{turn_of};
 ghost use Rattle.server_workers.specs.Going.{Went};
-ghost use Rattle.server_workers.specs.Running.{ComesNext, Ends, IsLinkWorker, LinkOpened, Over, ReaderNeverRan, ReaderRan, Rests, StartedAs, TakesLeaveAlone, end_after as end_after_test};
+ghost use Rattle.server_workers.specs.Running.{ComesNext, Ends, IsLinkWorker, Keeps, KeepsAll, KeepsPair, LinkOpened, Over, ReaderNeverRan, ReaderRan, Rests, StartedAs, StopsAs, StopsFor, TakesLeaveAlone, end_after as end_after_test};
 
 use crate::base::RunBase;
 use crate::heard::Heard;
@@ -102,6 +102,7 @@ where
     requires { IsLinkWorker helper }
     ensures back { ReaderRan D.told I.told helper result }
     ensures faults { W.faults crew.new ≡ W.faults crew.old }
+    ensures started { W.started crew.new ≡ W.started crew.old }
 {
     match crew.finish(helper) {
         Ended::Link {
@@ -190,7 +191,9 @@ where
     requires started { StartedAs I.told O.told D.told (arc_value turnstile.now) (known pass.old) live.helper live.link_out past.old }
     ensures table { table_of pass.new ≡ table_of pass.old }
     ensures over { Over I.told O.told D.told result.0 (known pass.old) (known pass.new) result.1 past.new }
+    ensures kept { length past.new.pairs.items ≡ length past.old.pairs.items + 1 }
     ensures faults { W.faults crew.new ≡ W.faults crew.old }
+    ensures started { W.started crew.new ≡ W.started crew.old }
 {
     let Live {
         helper,
@@ -322,6 +325,9 @@ where
     requires opened { LinkOpened I.told O.told D.told (known pass.old) twins past.old }
     ensures table { table_of pass.new ≡ table_of pass.old }
     ensures next { (dials : Dials) → dials.row ≡ 0 → ComesNext I.told O.told D.told result (arc_value turnstile.now) dials dials (W.faults crew.old) (W.faults crew.new) (known pass.old) (known pass.new) past.new }
+    ensures stops { StopsAs result 0 (W.faults crew.old) (W.faults crew.new) }
+    ensures kept { KeepsPair result (length past.old.pairs.items) (length past.new.pairs.items) }
+    ensures started { W.started crew.old ≤ W.started crew.new }
 {
     let Ok(share) = Arc::try_clone(turnstile) else {
         past.pairs.push_reserved(pair);
@@ -374,6 +380,9 @@ where
     requires rests { Rests I.told O.told D.told (known pass.old) twins past.old }
     ensures table { table_of pass.new ≡ table_of pass.old }
     ensures next { (dials : Dials) → dials.row ≡ 0 → ComesNext I.told O.told D.told result (arc_value turnstile.now) dials dials (W.faults crew.old) (W.faults crew.new) (known pass.old) (known pass.new) past.new }
+    ensures stops { StopsAs result 0 (W.faults crew.old) (W.faults crew.new) }
+    ensures kept { KeepsPair result (length past.old.pairs.items) (length past.new.pairs.items) }
+    ensures started { W.started crew.old ≤ W.started crew.new }
 {
     let Some(_) = enter(rt, turnstile, pass, &Input::Up) else {
         past.pairs.push_reserved(pair);
@@ -408,6 +417,9 @@ where
     requires rests { Rests L.In.told L.Out.told D.told (known pass.old) twins past.old }
     ensures table { table_of pass.new ≡ table_of pass.old }
     ensures next { ComesNext L.In.told L.Out.told D.told result (arc_value turnstile.now) (L.told dialer.old) (L.told dialer.new) (W.faults crew.old) (W.faults crew.new) (known pass.old) (known pass.new) past.new }
+    ensures stops { StopsAs result (L.told dialer.new).row (W.faults crew.old) (W.faults crew.new) }
+    ensures kept { KeepsAll result (length past.old.pairs.items) (length past.new.pairs.items) (L.made dialer.old) (L.made dialer.new) }
+    ensures started { W.started crew.old ≤ W.started crew.new }
 {
     if past.pairs.len() >= MOST_LINKS {
         return give_up(rt, turnstile, pass, RunEnd::Worn, twins);
@@ -462,6 +474,9 @@ where
     requires started { StartedAs L.In.told L.Out.told D.told (arc_value turnstile.now) (known pass.old) live.helper live.link_out past.old }
     ensures table { table_of pass.new ≡ table_of pass.old }
     ensures next { ComesNext L.In.told L.Out.told D.told result (arc_value turnstile.now) (L.told dialer.old) (L.told dialer.new) (W.faults crew.old) (W.faults crew.new) (known pass.old) (known pass.new) past.new }
+    ensures stops { StopsAs result (L.told dialer.new).row (W.faults crew.old) (W.faults crew.new) }
+    ensures kept { KeepsAll result (length past.old.pairs.items + 1) (length past.new.pairs.items) (L.made dialer.old) (L.made dialer.new) }
+    ensures started { W.started crew.old ≤ W.started crew.new }
 {
     let (end, twins) = serve_link(rt, alloc, turnstile, pass, crew, live, past);
     match end_after(end) {
@@ -496,6 +511,9 @@ where
     requires started { StartedAs L.In.told L.Out.told D.told (arc_value turnstile.now) (known pass.old) first.helper first.link_out past.old }
     ensures table { table_of pass.new ≡ table_of pass.old }
     ensures ends { Ends L.In.told L.Out.told D.told result.0 (L.told dialer.old) (L.told dialer.new) (Rose (W.faults crew.old) (W.faults crew.new)) (known pass.old) (known pass.new) result.1 past.new }
+    ensures stops { StopsFor result.0 (L.told dialer.new).row (W.faults crew.old) (W.faults crew.new) }
+    ensures kept { Keeps (length past.old.pairs.items + 1) (length past.new.pairs.items) (L.made dialer.old) (L.made dialer.new) }
+    ensures started { W.started crew.old ≤ W.started crew.new }
 {
     let mut live = first;
     for _ in rt.forever() {

@@ -25,8 +25,8 @@ abbrev pub PassesOn : Config → List BookPlace → BookPlace → Type 0
 PassesOn config ps p = IfSome p.passed (λ e. p.outputs
     ≡ map Core (outputs_after config (core_history ps) e) ++ deed_outputs config p.moment p.deed (open_aborts ps))
 
-abbrev pub CorePart : Type 0
-CorePart = (config : Config) (history : List BookEvent) (e : BookEvent) → PassesOn config (past config history) (place config (past config history) e)
+abbrev pub TheCoreIsGivenTheRest : Type 0
+TheCoreIsGivenTheRest = (config : Config) (history : List BookEvent) (e : BookEvent) → PassesOn config (past config history) (place config (past config history) e)
 
 -- ---- what is said of an abort
 
@@ -67,8 +67,8 @@ pub record IsSaid (config : Config) (ps : List BookPlace) (p : BookPlace) : Type
   pub is_first : IsFirst config ps p.input p.passed p.deed first
   pub outputs : p.outputs ≡ first ++ flat_map (said_at config ps p) (opened (p ∷ ps))
 
-abbrev pub Said : Type 0
-Said = (config : Config) (history : List BookEvent) (e : BookEvent) → IsSaid config (past config history) (place config (past config history) e)
+abbrev pub OutputsAreSaid : Type 0
+OutputsAreSaid = (config : Config) (history : List BookEvent) (e : BookEvent) → IsSaid config (past config history) (place config (past config history) e)
 
 -- ---- how often
 
@@ -93,12 +93,12 @@ pub record IsLimited (config : Config) (ps : List BookPlace) (a : Abort) : Type 
   pub requests : said_so_far is_request config a ps ≤ 3
   pub answers : said_so_far is_answer config a ps ≤ 1
 
-abbrev pub Limited : Type 0
-Limited = (config : Config) (history : List BookEvent) → Each (IsLimited config (past config history)) (opened (past config history))
+abbrev pub AbortsAreLimited : Type 0
+AbortsAreLimited = (config : Config) (history : List BookEvent) → Each (IsLimited config (past config history)) (opened (past config history))
 
 -- each time with the same octets
-abbrev pub Same : Type 0
-Same = (config : Config) (history : List BookEvent) (e : BookEvent) (a : Abort)
+abbrev pub RequestsAreTheSame : Type 0
+RequestsAreTheSame = (config : Config) (history : List BookEvent) (e : BookEvent) (a : Abort)
     → Each (λ o. is_request o ≡ true → o ≡ control a) (said_at config (past config history) (place config (past config history) e) a)
 
 -- ---- what is told
@@ -120,6 +120,6 @@ pub record TellsOf (config : Config) (ps : List BookPlace) (e : BookEvent) (a : 
   pub closed : (place config ps e).deed ≡ Answers a ended ↔ (IsOpen ps a × IsTold config e.input a ended)
   pub outputs : (place config ps e).deed ≡ Answers a ended → (place config ps e).outputs ≡ answer_to config a (code_of ended) ∷ []
 
-abbrev pub Told : Type 0
-Told = (config : Config) (history : List BookEvent) (e : BookEvent) (a : Abort) (ended : Bool)
+abbrev pub AnswersAreTold : Type 0
+AnswersAreTold = (config : Config) (history : List BookEvent) (e : BookEvent) (a : Abort) (ended : Bool)
     → TellsOf config (past config history) e a ended

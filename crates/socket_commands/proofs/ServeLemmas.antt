@@ -191,21 +191,21 @@ reported-sound end status line before now faults faults' (inr (inl (wrote, rose,
 reported-sound end status line before now faults faults' (inr (inr (same, memory))) writes sound = subst IsSoundEnd (sym memory) tt
 
 module _ {C D I O : Type 0} (readings : C → Option (List ℕ)) (told : D → Socket) (hears : I → Inlet) (speaks : O → Outlet) where
-  pub ran-known : {config : Config} {millis : ℕ} {before : List ℕ} {auth acct auth' acct' : Socket} {dials dials' : Dials} {refused : Type 0} {clock : C} {trail : Trail C D I O} {status : Status}
+  pub ran-known : {config : Config} {millis : ℕ} {before : List ℕ} {auth acct auth' acct' : Socket} {dials dials' : Dials} {starts starts' : ℕ} {clock : C} {trail : Trail C D I O} {status : Status}
       {written written' : Option (List ℕ)} {faults faults' : ℕ}
-      → RanFor readings told hears speaks config millis before auth acct auth' acct' dials dials' refused clock trail status written written' faults faults' → IsRunEnd status
+      → RanFor readings told hears speaks config millis before auth acct auth' acct' dials dials' starts starts' clock trail status written written' faults faults' → IsRunEnd status
   ran-known ran = reported-known ran.end _ _ _ _ _ _ ran.reported (end-known ran.end _ _ _ _ _ _ _ ran.served.because)
 
-  pub ran-wrote : {config : Config} {millis : ℕ} {before : List ℕ} {auth acct auth' acct' : Socket} {dials dials' : Dials} {refused : Type 0} {clock : C} {trail : Trail C D I O} {status : Status}
+  pub ran-wrote : {config : Config} {millis : ℕ} {before : List ℕ} {auth acct auth' acct' : Socket} {dials dials' : Dials} {starts starts' : ℕ} {clock : C} {trail : Trail C D I O} {status : Status}
       {written written' : Option (List ℕ)} {faults faults' : ℕ}
-      → RanFor readings told hears speaks config millis before auth acct auth' acct' dials dials' refused clock trail status written written' faults faults'
+      → RanFor readings told hears speaks config millis before auth acct auth' acct' dials dials' starts starts' clock trail status written written' faults faults'
       → status ≡ WriteFault → Rose faults faults'
   ran-wrote ran = reported-wrote ran.end _ _ _ _ _ _ ran.reported (end-writes ran.end _ _ _ _ _ _ _ ran.served.because)
 
-  pub ran-sound : {config : Config} {millis : ℕ} {before : List ℕ} {auth acct auth' acct' : Socket} {dials dials' : Dials} {refused : Type 0} {clock : C} {trail : Trail C D I O} {status : Status}
+  pub ran-sound : {config : Config} {millis : ℕ} {before : List ℕ} {auth acct auth' acct' : Socket} {dials dials' : Dials} {starts starts' : ℕ} {clock : C} {trail : Trail C D I O} {status : Status}
       {written written' : Option (List ℕ)} {faults faults' : ℕ}
-      → RanFor readings told hears speaks config millis before auth acct auth' acct' dials dials' refused clock trail status written written' faults faults'
-      → (Rose faults faults' → ⊥) → (Rose auth.faults auth'.faults → ⊥) → (Rose acct.faults acct'.faults → ⊥) → (Rose dials.faults dials'.faults → ⊥) → (refused → ⊥) → IsSoundEnd status
+      → RanFor readings told hears speaks config millis before auth acct auth' acct' dials dials' starts starts' clock trail status written written' faults faults'
+      → (Rose faults faults' → ⊥) → (Rose auth.faults auth'.faults → ⊥) → (Rose acct.faults acct'.faults → ⊥) → (Rose dials.faults dials'.faults → ⊥) → (Rose starts starts' → ⊥) → IsSoundEnd status
   ran-sound ran writes auths accts links threads =
       reported-sound ran.end _ _ _ _ _ _ ran.reported writes
       (end-sound ran.end _ _ _ _ _ _ _ ran.served.because (λ row. links (ran.served.dials_failed row))

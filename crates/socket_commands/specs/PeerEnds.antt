@@ -13,7 +13,7 @@ use Rattle.test_peers.specs.Users.{users_in}
 use Rattle.text_lines.specs.Streams.{most_octets}
 use Rattle.text_lines.specs.Words.{lines_of}
 use Rattle.text_commands.specs.WholeInput.{most_whole}
-use Rattle.peer_runs.specs.HomeRuns.{HomeBy, IsSound}
+use Rattle.peer_runs.specs.HomeRuns.{HomeBy, HomeCauses, IsSound}
 use Rattle.peer_runs.specs.NasRuns.{NasEnds}
 use Rattle.peer_runs.specs.Until.{InTime, TimeIsOver}
 use Rattle.server_workers.specs.declared.links.Pair.{Pair}
@@ -29,6 +29,11 @@ module _ {I O : Type 0} (hears : I → Inlet) (speaks : O → Outlet) where
   HomeEnds status link millis told left dials dials' clock clock' before now =
       (input : List ℕ) → told ≡ Some input
       → HomeBy hears speaks status (link_of link) input left (Dialled (link_of link) dials dials') (InTime millis clock clock') (TimeIsOver millis clock clock') before now
+
+  -- the same whether or not the input is told, of whatever users, by the counts of the source's faults too
+  abbrev pub HomeCausedBy : Status → Option (Pair I O) → ℕ → ℕ → ℕ → Dials → Dials → Option (List ℕ) → Option (List ℕ) → Option (List ℕ) → Option (List ℕ) → Type 0
+  HomeCausedBy status link millis reads reads' dials dials' clock clock' before now =
+      HomeCauses hears speaks status (link_of link) reads reads' (Dialled (link_of link) dials dials') (InTime millis clock clock') (TimeIsOver millis clock clock') before now
 
   -- the input is a list of users that is short enough, and no call on the link failed
   pub record IsSoundHome (link : Option (Pair I O)) (told : Option (List ℕ)) : Type 0 where

@@ -10,7 +10,7 @@ use Rattle.wire_devices.specs.Dialling.{Dials}
 use Rattle.wire_devices.specs.Links.{Inlet, Outlet}
 use Rattle.wire_devices.specs.Sockets.{Socket}
 use Rattle.agent_server.specs.declared.trail.Trail.{Trail}
-use Rattle.agent_server.specs.Server.{EndsEarly, Served, rank}
+use Rattle.agent_server.specs.Server.{Began, EndsEarly, Served, rank}
 use Rattle.text_commands.specs.SettingsInput.{SettingsTaken}
 use Rattle.peer_runs.specs.Until.{until_of}
 
@@ -41,30 +41,32 @@ Reports end status line before now faults faults' =
 
 module _ {C D I O : Type 0} (readings : C → Option (List ℕ)) (told : D → Socket) (hears : I → Inlet) (speaks : O → Outlet) where
   -- The server ran by these settings up to so long after the clock's first reading, and this was written of it.
-  pub record RanFor (config : Config) (millis : ℕ) (before : List ℕ) (auth acct auth' acct' : Socket) (dials dials' : Dials) (refused : Type 0)
+  pub record RanFor (config : Config) (millis : ℕ) (before : List ℕ) (auth acct auth' acct' : Socket) (dials dials' : Dials) (starts starts' : ℕ)
       (clock : C) (trail : Trail C D I O) (status : Status) (written written' : Option (List ℕ)) (faults faults' : ℕ) : Type 0 where
     pub first : ℕ
     pub end : Status
-    pub served : Served readings told hears speaks (with_boot first config) (until_of first millis) (before ++ first ∷ []) auth acct auth' acct' dials dials' refused clock trail end
+    pub served : Served readings told hears speaks (with_boot first config) (until_of first millis) (before ++ first ∷ []) auth acct auth' acct' dials dials' starts starts' clock trail end
     pub reported : Reports end status (served_line trail.entries trail.lost) written written' faults faults'
 
   -- the same by the settings of the input
-  pub record RanServer (millis : ℕ) (input left : Option (List ℕ)) (before : List ℕ) (auth acct auth' acct' : Socket) (dials dials' : Dials) (refused : Type 0)
+  pub record RanServer (millis : ℕ) (input left : Option (List ℕ)) (before : List ℕ) (auth acct auth' acct' : Socket) (dials dials' : Dials) (starts starts' : ℕ)
       (clock : C) (trail : Trail C D I O) (status : Status) (written written' : Option (List ℕ)) (faults faults' : ℕ) : Type 0 where
     pub config : Config
     pub settings : SettingsTaken config input left
-    pub ran : RanFor config millis before auth acct auth' acct' dials dials' refused clock trail status written written' faults faults'
+    pub ran : RanFor config millis before auth acct auth' acct' dials dials' starts starts' clock trail status written written' faults faults'
 
--- the run ended before its workers were started
-pub record EndsBefore (status : Status) (millis : ℕ) (clock : Option (List ℕ)) (dials dials' : Dials) (twin start : Type 0) : Type 0 where
+-- The run by these settings ended before its workers were started. Its first reading of the clock, after those before, is the
+-- one from which its time is counted.
+pub record EndsBefore (status : Status) (config : Config) (millis : ℕ) (before : List ℕ) (clock : Option (List ℕ)) (dials dials' : Dials) (twin start : Type 0) : Type 0 where
   pub first : ℕ
+  pub began : Began (with_boot first config) (until_of first millis) (before ++ first ∷ []) clock
   pub early : EndsEarly status clock (until_of first millis) dials dials' twin start
 
 -- the same, and its settings were read
-pub record EndedEarly (status : Status) (millis : ℕ) (input left clock : Option (List ℕ)) (dials dials' : Dials) (twin start : Type 0) : Type 0 where
+pub record EndedEarly (status : Status) (millis : ℕ) (input left : Option (List ℕ)) (before : List ℕ) (clock : Option (List ℕ)) (dials dials' : Dials) (twin start : Type 0) : Type 0 where
   pub config : Config
   pub settings : SettingsTaken config input left
-  pub before : EndsBefore status millis clock dials dials' twin start
+  pub ended : EndsBefore status config millis before clock dials dials' twin start
 
 -- how a run ends that began
 abbrev pub IsRunEnd : Status → Type 0

@@ -4,7 +4,7 @@ ghost use Rattle.std.specs.Prelude.{◌≡◌, ◌≢◌, ◌⊎◌, None};
 ghost use Rattle.wire_core.specs.Counts.{Rose};
 ghost use Rattle.text_commands.specs.Tasks.{EndsCounts};
 ghost use Rattle.peer_runs.specs.HomeRuns.{HomeCounts};
-ghost use Rattle.socket_commands.specs.PeerEnds.{HomeEnds, IsSoundHome, NasRan, TakesAll, link_of};
+ghost use Rattle.socket_commands.specs.PeerEnds.{HomeCausedBy, HomeEnds, IsSoundHome, NasRan, TakesAll, link_of};
 
 use agent_server::{Finish, Pair, World};
 use agent_status::Status;
@@ -43,6 +43,8 @@ where
     ensures begun { result.status ≢ Status.Usage }
     ensures trail { result.trail ≡ None }
     ensures ends { HomeEnds L.In.told L.Out.told result.status result.home millis (S.left input.old) (S.left input.new)
+        (L.told world.dialer) (L.told result.world.dialer) (C.readings world.clock) (C.readings result.world.clock) (K.written output.old) (K.written output.new) }
+    ensures causes { HomeCausedBy L.In.told L.Out.told result.status result.home millis (S.faults input.old) (S.faults input.new)
         (L.told world.dialer) (L.told result.world.dialer) (C.readings world.clock) (C.readings result.world.clock) (K.written output.old) (K.written output.new) }
     ensures counts { HomeCounts result.status (S.faults input.old) (S.faults input.new) (K.faults output.old) (K.faults output.new) }
     ensures complete { IsSoundHome L.In.told L.Out.told result.home (S.left input.old) → ¬ Rose (S.faults input.old) (S.faults input.new)

@@ -7,6 +7,8 @@ ghost use Rattle.agent_settings.specs.Config.{InLimits};
 ghost use Rattle.agent_config.specs.Settings.{settings_in};
 ghost use Rattle.agent_settings.specs.declared.fault.ConfigFault.{ConfigFault};
 ghost use Rattle.agent_server.specs.Desks.{HasRead};
+ghost use Rattle.agent_server.specs.Server.{HasTrail};
+ghost use Rattle.server_workers.specs.Running.{counted};
 ghost use Rattle.text_commands.specs.SettingsInput.{SettingsNot};
 ghost use Rattle.text_commands.specs.Tasks.{EndsCounts};
 ghost use Rattle.text_commands.specs.WholeInput.{most_whole};
@@ -99,13 +101,15 @@ where
     requires limits { InLimits config }
     requires rows { ((D.told world.auth).row ≡ 0) × ((D.told world.acct).row ≡ 0) × ((L.told world.dialer).row ≡ 0) }
     ensures home { result.home ≡ None }
+    ensures trail { HasTrail result.trail (W.started world.crew) (W.started result.world.crew) }
+    ensures links { IfSome result.trail (λ trail. L.made result.world.dialer ≡ counted (L.made world.dialer) (length trail.links)) }
     ensures served { (before : List ℕ) → HasRead (C.readings world.clock) before []
         → IfSome result.trail (λ trail. RanFor C.readings D.told L.In.told L.Out.told config millis before
         (D.told world.auth) (D.told world.acct) (D.told result.world.auth) (D.told result.world.acct) (L.told world.dialer) (L.told result.world.dialer)
-        (Rose (W.faults world.crew) (W.faults result.world.crew)) result.world.clock trail result.status
+        (W.faults world.crew) (W.faults result.world.crew) result.world.clock trail result.status
         (K.written output.old) (K.written output.new) (K.faults output.old) (K.faults output.new)) }
     ensures early { (before : List ℕ) → HasRead (C.readings world.clock) before []
-        → IfNone result.trail (EndsBefore result.status millis (C.readings result.world.clock) (L.told world.dialer) (L.told result.world.dialer)
+        → IfNone result.trail (EndsBefore result.status config millis before (C.readings result.world.clock) (L.told world.dialer) (L.told result.world.dialer)
         (Rose (D.told world.auth).faults (D.told result.world.auth).faults ⊎ Rose (D.told world.acct).faults (D.told result.world.acct).faults)
         (Rose (W.faults world.crew) (W.faults result.world.crew))) }
     ensures unwritten { IfNone result.trail (output.new ≡ output.old) }
@@ -179,14 +183,16 @@ where
     requires rows { ((D.told world.auth).row ≡ 0) × ((D.told world.acct).row ≡ 0) × ((L.told world.dialer).row ≡ 0) }
     ensures begun { result.status ≢ Status.Usage }
     ensures home { result.home ≡ None }
+    ensures trail { HasTrail result.trail (W.started world.crew) (W.started result.world.crew) }
+    ensures links { IfSome result.trail (λ trail. L.made result.world.dialer ≡ counted (L.made world.dialer) (length trail.links)) }
     ensures served { (before : List ℕ) → HasRead (C.readings world.clock) before []
         → IfSome result.trail (λ trail. RanServer C.readings D.told L.In.told L.Out.told millis (S.left input.old) (S.left input.new) before
         (D.told world.auth) (D.told world.acct) (D.told result.world.auth) (D.told result.world.acct) (L.told world.dialer) (L.told result.world.dialer)
-        (Rose (W.faults world.crew) (W.faults result.world.crew)) result.world.clock trail result.status
+        (W.faults world.crew) (W.faults result.world.crew) result.world.clock trail result.status
         (K.written output.old) (K.written output.new) (K.faults output.old) (K.faults output.new)) }
     ensures early { (before : List ℕ) → HasRead (C.readings world.clock) before []
         → IfNone result.trail ((SettingsNot result.status (S.left input.old) (S.left input.new) × (result.world ≡ world))
-        ⊎ EndedEarly result.status millis (S.left input.old) (S.left input.new) (C.readings result.world.clock) (L.told world.dialer) (L.told result.world.dialer)
+        ⊎ EndedEarly result.status millis (S.left input.old) (S.left input.new) before (C.readings result.world.clock) (L.told world.dialer) (L.told result.world.dialer)
         (Rose (D.told world.auth).faults (D.told result.world.auth).faults ⊎ Rose (D.told world.acct).faults (D.told result.world.acct).faults)
         (Rose (W.faults world.crew) (W.faults result.world.crew))) }
     ensures unwritten { IfNone result.trail (output.new ≡ output.old) }

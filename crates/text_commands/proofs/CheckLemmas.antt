@@ -10,7 +10,7 @@ use Rattle.agent_config.specs.Settings.{settings_in}
 use Rattle.printed_lines.specs.SettingsText.{settings_text}
 use Rattle.agent_status.specs.declared.status.Status.{Status}
 use Rattle.agent_status.specs.declared.status.Status.TheVariants.{Done, Usage, BadConfig, BadTranscript, ReadFault, WriteFault, OutOfMemory, TooLong, LinkFault, PeerRefused, NoThread, DatagramFault, LinkEnded}
-use Rattle.text_commands.specs.Checks.{ChecksBy}
+use Rattle.text_commands.specs.Checks.{ChecksBy, IsCheckEnd}
 use Rattle.text_commands.specs.SettingsInput.{SettingsNot, SettingsTaken}
 use Rattle.text_commands.specs.WholeInput.{TakesNot, most_whole}
 use Rattle.text_commands.specs.Tasks.{EndsCounts}
@@ -30,6 +30,22 @@ not-taken DatagramFault X before left written told takes = absurd takes
 not-taken (LinkEnded cause) X before left written told takes = absurd takes
 not-taken (BadTranscript number reason) X before left written told takes = absurd takes
 not-taken WriteFault X before left written told takes = absurd takes
+
+-- without settings a check ends so
+pub known : (status : Status) (before left : Option (List ℕ)) → SettingsNot status before left → IsCheckEnd status
+known Done before left not = tt
+known Usage before left not = absurd not
+known (BadConfig fault) before left not = tt
+known (BadTranscript number reason) before left not = absurd not
+known ReadFault before left not = tt
+known WriteFault before left not = tt
+known OutOfMemory before left not = tt
+known TooLong before left not = tt
+known LinkFault before left not = absurd not
+known (PeerRefused code) before left not = absurd not
+known NoThread before left not = absurd not
+known DatagramFault before left not = absurd not
+known (LinkEnded cause) before left not = absurd not
 
 all-of : (X : List ℕ) (left : Option (List ℕ)) → left ≡ Some [] → Consumes (Some X) left X
 all-of X left none = subst (λ l. Consumes (Some X) l X) (sym none) (record { front = ap Some (sym (append-nil X)) })

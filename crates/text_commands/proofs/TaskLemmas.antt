@@ -19,7 +19,7 @@ use Rattle.text_lines.specs.declared.raw_lines.RawLine.TheVariants.{Line, LastLi
 use Rattle.text_lines.proofs.LineLemmas.{lines-cut, lines-front, lines-last}
 use Rattle.agent_status.specs.declared.status.Status.{Status}
 use Rattle.agent_status.specs.declared.status.Status.TheVariants.{Done, Usage, BadConfig, BadTranscript, ReadFault, WriteFault, OutOfMemory, TooLong, LinkFault, PeerRefused, NoThread, DatagramFault, LinkEnded}
-use Rattle.text_commands.specs.Tasks.{Adds, AreLines, Closes, EndsBy, EndsCounts, Finishes, IsBad, IsTask, FindsBad, StatusOf, TakesEach, TakesLines, Task, WorksNot, WritesPart, ended_text}
+use Rattle.text_commands.specs.Tasks.{Adds, AreLines, Closes, EndsBy, EndsCounts, Finishes, IsBad, IsLinesEnd, IsTask, FindsBad, StatusOf, TakesEach, TakesLines, Task, WorksNot, WritesPart, ended_text}
 
 pub each-push : {X : Type 0} (P : X → Type 0) (xs : List X) (y : X) → AllByRecursion P xs → P y → AllByRecursion P (xs ++ y ∷ [])
 each-push P [] y each is = (is, tt)
@@ -83,20 +83,20 @@ at-end c left e =
 -- ---- the status of a fault
 
 pub status-begun : (task : Task) (took : List (List ℕ) → Type 0) (fault : RawFault) (status : Status) (lines : List (List ℕ)) (before left : Option (List ℕ)) (old new : Cutting)
-    → took lines → TakesNone fault before left old new → StatusOf fault took task status → status ≡ Usage → ⊥
-status-begun task took raw.Read status lines before left old new taken takes is usage = cc (is, usage)
-status-begun task took raw.TooMuch status lines before left old new taken takes is usage = cc (is, usage)
-status-begun task took raw.NoMemory status lines before left old new taken takes is usage = cc (is, usage)
-status-begun task took raw.LongLine status lines before left old new taken (xs, (more, unended, further, long, within)) is usage =
-    subst (λ s. IsBad task s (lines ++ xs ∷ [])) usage (is lines xs taken long)
+    → old.longest ≡ task.longest → took lines → TakesNone fault before left old new → StatusOf fault took task status → status ≡ Usage → ⊥
+status-begun task took raw.Read status lines before left old new limit taken takes is usage = cc (is, usage)
+status-begun task took raw.TooMuch status lines before left old new limit taken takes is usage = cc (is, usage)
+status-begun task took raw.NoMemory status lines before left old new limit taken takes is usage = cc (is, usage)
+status-begun task took raw.LongLine status lines before left old new limit taken (xs, (more, unended, further, long, within)) is usage =
+    subst (λ s. IsBad task s (lines ++ xs ∷ [])) usage (is lines xs taken (omega (arith, long, limit)))
 
 status-done : (task : Task) (took : List (List ℕ) → Type 0) (fault : RawFault) (status : Status) (lines : List (List ℕ)) (before left : Option (List ℕ)) (old new : Cutting)
-    → took lines → TakesNone fault before left old new → StatusOf fault took task status → status ≡ Done → ⊥
-status-done task took raw.Read status lines before left old new taken takes is done = cc (is, done)
-status-done task took raw.TooMuch status lines before left old new taken takes is done = cc (is, done)
-status-done task took raw.NoMemory status lines before left old new taken takes is done = cc (is, done)
-status-done task took raw.LongLine status lines before left old new taken (xs, (more, unended, further, long, within)) is done =
-    subst (λ s. IsBad task s (lines ++ xs ∷ [])) done (is lines xs taken long)
+    → old.longest ≡ task.longest → took lines → TakesNone fault before left old new → StatusOf fault took task status → status ≡ Done → ⊥
+status-done task took raw.Read status lines before left old new limit taken takes is done = cc (is, done)
+status-done task took raw.TooMuch status lines before left old new limit taken takes is done = cc (is, done)
+status-done task took raw.NoMemory status lines before left old new limit taken takes is done = cc (is, done)
+status-done task took raw.LongLine status lines before left old new limit taken (xs, (more, unended, further, long, within)) is done =
+    subst (λ s. IsBad task s (lines ++ xs ∷ [])) done (is lines xs taken (omega (arith, long, limit)))
 
 bad-counts : (task : Task) (status : Status) (lines : List (List ℕ)) (a a' b b' d d' : ℕ) → IsBad task status lines → EndsCounts status a a' b b' d d'
 bad-counts task (BadTranscript number reason) lines a a' b b' d d' bad = tt
@@ -114,16 +114,71 @@ bad-counts task OutOfMemory lines a a' b b' d d' bad = absurd bad
 bad-counts task TooLong lines a a' b b' d d' bad = absurd bad
 
 pub status-counts : (task : Task) (took : List (List ℕ) → Type 0) (fault : RawFault) (status : Status) (lines : List (List ℕ)) (before left : Option (List ℕ)) (old new : Cutting)
-    → took lines → TakesNone fault before left old new → StatusOf fault took task status → (a a' b b' d d' : ℕ) → (fault ≡ raw.Read → Rose b b')
+    → old.longest ≡ task.longest → took lines → TakesNone fault before left old new → StatusOf fault took task status → (a a' b b' d d' : ℕ) → (fault ≡ raw.Read → Rose b b')
     → EndsCounts status a a' b b' d d'
-status-counts task took raw.Read status lines before left old new taken takes is a a' b b' d d' rose =
+status-counts task took raw.Read status lines before left old new limit taken takes is a a' b b' d d' rose =
     subst (λ s. EndsCounts s a a' b b' d d') (sym is) (rose refl)
-status-counts task took raw.TooMuch status lines before left old new taken takes is a a' b b' d d' rose =
+status-counts task took raw.TooMuch status lines before left old new limit taken takes is a a' b b' d d' rose =
     subst (λ s. EndsCounts s a a' b b' d d') (sym is) tt
-status-counts task took raw.NoMemory status lines before left old new taken takes is a a' b b' d d' rose =
+status-counts task took raw.NoMemory status lines before left old new limit taken takes is a a' b b' d d' rose =
     subst (λ s. EndsCounts s a a' b b' d d') (sym is) tt
-status-counts task took raw.LongLine status lines before left old new taken (xs, (more, unended, further, long, within)) is a a' b b' d d' rose =
-    bad-counts task status (lines ++ xs ∷ []) a a' b b' d d' (is lines xs taken long)
+status-counts task took raw.LongLine status lines before left old new limit taken (xs, (more, unended, further, long, within)) is a a' b b' d d' rose =
+    bad-counts task status (lines ++ xs ∷ []) a a' b b' d d' (is lines xs taken (omega (arith, long, limit)))
+
+-- ---- the statuses with which a command over lines may end
+
+pub closes-known : (task : Task) (status : Status) (lines : List (List ℕ)) (before now : Option (List ℕ)) → Closes task status lines before now → IsLinesEnd status
+closes-known task Done lines before now closes = tt
+closes-known task Usage lines before now closes = absurd closes
+closes-known task (BadConfig fault) lines before now closes = absurd closes
+closes-known task (BadTranscript number reason) lines before now closes = tt
+closes-known task ReadFault lines before now closes = tt
+closes-known task WriteFault lines before now closes = tt
+closes-known task OutOfMemory lines before now closes = tt
+closes-known task TooLong lines before now closes = tt
+closes-known task LinkFault lines before now closes = absurd closes
+closes-known task (PeerRefused code) lines before now closes = absurd closes
+closes-known task NoThread lines before now closes = absurd closes
+closes-known task DatagramFault lines before now closes = absurd closes
+closes-known task (LinkEnded cause) lines before now closes = absurd closes
+
+pub works-known : (task : Task) (status : Status) (lines : List (List ℕ)) (line : List ℕ) (before now : Option (List ℕ)) → WorksNot task status lines line before now → IsLinesEnd status
+works-known task Done lines line before now works = tt
+works-known task Usage lines line before now works = absurd works
+works-known task (BadConfig fault) lines line before now works = absurd works
+works-known task (BadTranscript number reason) lines line before now works = tt
+works-known task ReadFault lines line before now works = tt
+works-known task WriteFault lines line before now works = tt
+works-known task OutOfMemory lines line before now works = tt
+works-known task TooLong lines line before now works = tt
+works-known task LinkFault lines line before now works = absurd works
+works-known task (PeerRefused code) lines line before now works = absurd works
+works-known task NoThread lines line before now works = absurd works
+works-known task DatagramFault lines line before now works = absurd works
+works-known task (LinkEnded cause) lines line before now works = absurd works
+
+bad-known : (task : Task) (status : Status) (lines : List (List ℕ)) → IsBad task status lines → IsLinesEnd status
+bad-known task Done lines bad = tt
+bad-known task Usage lines bad = absurd bad
+bad-known task (BadConfig fault) lines bad = absurd bad
+bad-known task (BadTranscript number reason) lines bad = tt
+bad-known task ReadFault lines bad = tt
+bad-known task WriteFault lines bad = tt
+bad-known task OutOfMemory lines bad = tt
+bad-known task TooLong lines bad = tt
+bad-known task LinkFault lines bad = absurd bad
+bad-known task (PeerRefused code) lines bad = absurd bad
+bad-known task NoThread lines bad = absurd bad
+bad-known task DatagramFault lines bad = absurd bad
+bad-known task (LinkEnded cause) lines bad = absurd bad
+
+pub status-known : (task : Task) (took : List (List ℕ) → Type 0) (fault : RawFault) (status : Status) (lines : List (List ℕ)) (before left : Option (List ℕ)) (old new : Cutting)
+    → old.longest ≡ task.longest → took lines → TakesNone fault before left old new → StatusOf fault took task status → IsLinesEnd status
+status-known task took raw.Read status lines before left old new limit taken takes is = subst IsLinesEnd (sym is) tt
+status-known task took raw.TooMuch status lines before left old new limit taken takes is = subst IsLinesEnd (sym is) tt
+status-known task took raw.NoMemory status lines before left old new limit taken takes is = subst IsLinesEnd (sym is) tt
+status-known task took raw.LongLine status lines before left old new limit taken (xs, (more, unended, further, long, within)) is =
+    bad-known task status (lines ++ xs ∷ []) (is lines xs taken (omega (arith, long, limit)))
 
 -- ---- a sound input is taken whole
 
@@ -191,34 +246,37 @@ pub record Goes (task : Task) (took : List (List ℕ) → Type 0) (input : Optio
   pub sound : task.stop lines ≡ None
   pub wrote : Appends before now (task.text lines)
   pub passed : c.held.passed ≡ length (ended_text lines)
+  pub limit : c.longest ≡ task.longest
   pub octets : Consumes input (rest_of c left) (ended_text lines)
 
 module _ (task : Task) (took : List (List ℕ) → Type 0) (law : IsTask task) where
-  pub goes-first : (c : Cutting) (left written : Option (List ℕ)) → took [] → c.held.octets ≡ [] → c.held.passed ≡ 0
+  pub goes-first : (c : Cutting) (left written : Option (List ℕ)) → took [] → c.held.octets ≡ [] → c.held.passed ≡ 0 → c.longest ≡ task.longest
       → Goes task took left c left written written
-  goes-first c left written taken none zero = record {
+  goes-first c left written taken none zero limit = record {
     lines = [];
     taken = taken;
     each = tt;
     sound = law.none;
     wrote = subst (Appends written written) (sym law.empty) (Appends-none written);
     passed = zero;
+    limit = limit;
     octets =
         let held : prepend_known [] left ≡ rest_of c left = ap (λ xs. prepend_known xs left) (sym none) in
         subst (λ then. Consumes left then []) ((Consumes-none left).front ∙ held) (Consumes-none left);
   }
 
   pub goes-on : {input before now : Option (List ℕ)} {took' : List (List ℕ) → Type 0} (old new : Cutting) (left then : Option (List ℕ)) → (g : Goes task took input old left before now)
-      → TakesRawLine Line (rest_of old left) (rest_of new then) old new → IsUnended new.line
+      → TakesRawLine Line (rest_of old left) (rest_of new then) old new → IsUnended new.line → new.longest ≡ old.longest
       → took' (g.lines ++ new.line ∷ []) → (text : List ℕ) → Adds task g.lines new.line text → (after : Option (List ℕ)) → Appends now after text
       → Goes task took' input new then before after
-  goes-on {input = input} {before = before} old new left then g takes unended taken text adds after wrote = record {
+  goes-on {input = input} {before = before} old new left then g takes unended limit taken text adds after wrote = record {
     lines = g.lines ++ new.line ∷ [];
     taken = taken;
     each = each-push IsUnended g.lines new.line g.each unended;
     sound = adds.sound;
     wrote = subst (Appends before after) (sym adds.text) (Appends-append g.wrote wrote);
     passed = omega (arith, g.passed, takes.1, ap length (ended-push g.lines new.line), length-append (ended_text g.lines) (with_end new.line), length-append new.line (10 ∷ []));
+    limit = limit ∙ g.limit;
     octets = subst (λ xs. Consumes input (rest_of new then) xs) (sym (ended-push g.lines new.line)) (Consumes-append g.octets takes.0);
   }
 
@@ -455,23 +513,25 @@ module _ (task : Task) (took : List (List ℕ) → Type 0) (law : IsTask task) w
   pub ends-fault : {before now : Option (List ℕ)} (fault : RawFault) (status : Status) (X : List ℕ) (old new : Cutting) (left then : Option (List ℕ))
       → (g : Goes task took (Some X) old left before now) → TakesNone fault (rest_of old left) then old new
       → StatusOf fault took task status → EndsBy task status X then before now
-  ends-fault {before} {now} raw.Read status X old new left then g (part, unended, takes) is =
+  ends-fault {before} {now} raw.Read status X old new left then g (part, unended, takes, short) is =
       subst (λ s. EndsBy task s X then before now) (sym is) (record {
         lines = g.lines;
         each = g.each;
         sound = g.sound;
         part = part;
         unended = unended;
+        short = omega (arith, short, g.limit);
         taken = Consumes-append g.octets takes;
         written = g.wrote;
       })
-  ends-fault {before} {now} raw.TooMuch status X old new left then g (part, (x, unended, takes, full)) is =
+  ends-fault {before} {now} raw.TooMuch status X old new left then g (part, (x, unended, takes, short, full)) is =
       subst (λ s. EndsBy task s X then before now) (sym is) (record {
         lines = g.lines;
         each = g.each;
         sound = g.sound;
         part = part;
         unended = unended;
+        short = omega (arith, short, g.limit);
         full = omega (arith, full, g.passed, length-append (ended_text g.lines) part);
         more = x;
         taken = subst (λ xs. Consumes (Some X) then xs) (sym (append_assoc (ended_text g.lines) part (x ∷ []))) (Consumes-append g.octets takes);
@@ -485,7 +545,7 @@ module _ (task : Task) (took : List (List ℕ) → Type 0) (law : IsTask task) w
       let (zs, still, front) = Consumes-told takes ys told in
       let (behind, (others, first)) = lines-front x xs (more ++ zs) unended in
       let all = lines-are X old left g ys told ∙ ap (λ r. g.lines ++ lines_of r) (front ∙ append_assoc (x ∷ xs) more zs) ∙ ap (λ r. g.lines ++ r) first in
-      by status (x ∷ xs ++ behind) (is g.lines (x ∷ xs ++ behind) g.taken (omega (arith, long, length-append (x ∷ xs) behind))) others all
+      by status (x ∷ xs ++ behind) (is g.lines (x ∷ xs ++ behind) g.taken (omega (arith, long, g.limit, length-append (x ∷ xs) behind))) others all
       (omega (arith, within, g.passed, length-append (ended_text g.lines) (x ∷ xs ++ more))) (Consumes-append g.octets takes)
     where
       by : (status : Status) (l : List ℕ) → IsBad task status (g.lines ++ l ∷ []) → (others : List (List ℕ)) → lines_of X ≡ g.lines ++ l ∷ others
@@ -590,7 +650,7 @@ module _ (task : Task) (took : List (List ℕ) → Type 0) (law : IsTask task) w
       let (ys, told, cut) = told-by X old left g in
       let (zs, still, front) = Consumes-told takes ys told in
       let (piece, (behind, rest, is_piece, ends)) = first-cut (more ++ zs) in
-      by status piece behind (is g.lines (xs ++ piece) g.taken (omega (arith, long, length-append xs piece)))
+      by status piece behind (is g.lines (xs ++ piece) g.taken (omega (arith, long, g.limit, length-append xs piece)))
       (cut ∙ ap (λ r. ended_text g.lines ++ r) (front ∙ append_assoc xs more zs ∙ ap (λ r. xs ++ r) rest ∙ sym (append_assoc xs piece behind)))
       (unended-append xs piece unended is_piece) ends
     where
@@ -608,9 +668,9 @@ module _ (task : Task) (took : List (List ℕ) → Type 0) (law : IsTask task) w
         ends = found ends;
       }
         where
-          found : IsCut behind → ((rest : List ℕ) × (behind ≡ 10 ∷ rest)) ⊎ ((behind ≡ []) × (140100 < length (xs ++ piece)))
+          found : IsCut behind → ((rest : List ℕ) × (behind ≡ 10 ∷ rest)) ⊎ ((behind ≡ []) × (task.longest < length (xs ++ piece)))
           found (inl ended) = inl ended
-          found (inr none) = inr (none, omega (arith, long, length-append xs piece))
+          found (inr none) = inr (none, omega (arith, long, g.limit, length-append xs piece))
       by Done piece behind bad octets unended ends = tt
       by Usage piece behind bad octets unended ends = tt
       by ReadFault piece behind bad octets unended ends = tt
@@ -644,8 +704,8 @@ module _ (task : Task) (took : List (List ℕ) → Type 0) (law : IsTask task) w
       → (g : Goes task took input old left before now) → TakesNone fault (rest_of old left) then old new → StatusOf fault took task status
       → TakesLines task took (Err status) input then present before now
   stops-fault {before = before} {now = now} present fault status old new left then g takes is =
-      stops then before now present status (status-done task took fault status g.lines (rest_of old left) then old new g.taken takes is)
-      (status-begun task took fault status g.lines (rest_of old left) then old new g.taken takes is)
+      stops then before now present status (status-done task took fault status g.lines (rest_of old left) then old new g.limit g.taken takes is)
+      (status-begun task took fault status g.lines (rest_of old left) then old new g.limit g.taken takes is)
       (λ X told.
       let h = subst (λ input. Goes task took input old left before now) told g in (
         ends-fault fault status X old new left then h takes is,
@@ -703,7 +763,7 @@ module _ (task : Task) (took : List (List ℕ) → Type 0) (law : IsTask task) w
 
   -- these octets are held behind all lines
   abbrev holding : List ℕ → List ℕ → ℕ → Cutting
-  holding line octets passed = record { line = line; held = record { octets = octets; passed = passed } }
+  holding line octets passed = record { line = line; held = record { octets = octets; passed = passed }; longest = task.longest }
 
   goes-behind : {input left before now : Option (List ℕ)} (behind : List ℕ) → (t : TakesEach task took input left before now behind)
       → Goes task took input (holding behind behind (length (ended_text t.lines))) left before now
@@ -714,6 +774,7 @@ module _ (task : Task) (took : List (List ℕ) → Type 0) (law : IsTask task) w
     sound = t.sound;
     wrote = t.written;
     passed = refl;
+    limit = refl;
     octets = record { front = t.octets.front ∙ prepend-append (ended_text t.lines) behind left };
   }
 

@@ -26,6 +26,7 @@ shown_from before (line ∷ lines) = shown_on before (show_line line) (λ next. 
 -- nothing stands after the lines
 abbrev pub show_task : Task
 show_task = record {
+  longest = 140000;
   stop = λ lines. (shown_from 0 lines).stop;
   text = λ lines. (shown_from 0 lines).text;
   close = λ lines. [];

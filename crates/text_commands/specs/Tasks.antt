@@ -1,5 +1,5 @@
 -- What a command makes of the lines of its input, and how it may end.
-use Rattle.std.specs.Prelude.{◌≡◌, ℕ, ◌<◌, ◌≤◌, ◌⊎◌, Bool, true, false, List, [], ◌∷◌, ◌++◌, length, Option, Some, None, Result, Ok, Err}
+use Rattle.std.specs.Prelude.{◌≡◌, ℕ, ◌<◌, ◌≤◌, ◌⊎◌, Bool, true, false, List, [], ◌∷◌, ◌++◌, length, Option, Some, None, Result, Ok, Err, ⊤}
 use Rattle.std.specs.List.{AllByRecursion, flat_map}
 use Rattle.wire_core.specs.Counts.{Rose}
 use Rattle.wire_core.specs.Sink.{Appends, AppendsPrefix}
@@ -12,8 +12,10 @@ use Rattle.text_lines.specs.Words.{lines_of}
 use Rattle.agent_status.specs.declared.status.Status.{Status}
 use Rattle.agent_status.specs.declared.status.Status.TheVariants.{Done, Usage, BadConfig, BadTranscript, ReadFault, WriteFault, OutOfMemory, TooLong}
 
--- what a command makes of lines: which is the first bad one, what those before it print, and what stands after all lines
+-- what a command makes of lines: how many octets one has at most, which is the first bad one, what those before it print, and
+-- what stands after all lines
 pub record Task : Type 0 where
+  pub longest : ℕ
   pub stop : List (List ℕ) → Option Bad
   pub text : List (List ℕ) → List ℕ
   pub close : List (List ℕ) → List ℕ
@@ -98,14 +100,15 @@ pub record Stops (task : Task) (bad : Bad) (input : List ℕ) (left before now :
   pub few : length taken ≤ most_octets
   pub written : Appends before now (task.text (lines_of input))
 
--- What was taken is lines that ended, none of them bad, and a part of one that had not, and exactly what these lines print
--- was written.
+-- What was taken is lines that ended, none of them bad, and a part of one that had not, which isn't too long, and exactly what
+-- these lines print was written.
 pub record BreaksOff (task : Task) (input : List ℕ) (left before now : Option (List ℕ)) : Type 0 where
   pub lines : List (List ℕ)
   pub each : AllByRecursion IsUnended lines
   pub sound : task.stop lines ≡ None
   pub part : List ℕ
   pub unended : IsUnended part
+  pub short : length part ≤ task.longest
   pub taken : Consumes (Some input) left (ended_text lines ++ part)
   pub written : Appends before now (task.text lines)
 
@@ -116,6 +119,7 @@ pub record Overruns (task : Task) (input : List ℕ) (left before now : Option (
   pub sound : task.stop lines ≡ None
   pub part : List ℕ
   pub unended : IsUnended part
+  pub short : length part ≤ task.longest
   pub full : length (ended_text lines ++ part) ≡ most_octets
   pub more : ℕ
   pub taken : Consumes (Some input) left ((ended_text lines ++ part) ++ more ∷ [])
@@ -149,6 +153,16 @@ EndsBy task OutOfMemory input left before now = WritesPart task input left befor
 EndsBy task TooLong input left before now = Overruns task input left before now
 EndsBy task status input left before now = ⊥
 
+-- a status with which a command may end that goes through its input line by line
+abbrev pub IsLinesEnd : Status → Type 0
+IsLinesEnd Done = ⊤
+IsLinesEnd (BadTranscript line reason) = ⊤
+IsLinesEnd ReadFault = ⊤
+IsLinesEnd WriteFault = ⊤
+IsLinesEnd OutOfMemory = ⊤
+IsLinesEnd TooLong = ⊤
+IsLinesEnd status = ⊥
+
 -- Lines that end were taken, none of them bad, and what they print was written. The input is at its end behind these octets.
 pub record TakesEach (task : Task) (took : List (List ℕ) → Type 0) (input left before now : Option (List ℕ)) (behind : List ℕ) : Type 0 where
   pub lines : List (List ℕ)
@@ -171,7 +185,7 @@ pub record FindsBad (task : Task) (bad : Bad) (input : List ℕ) : Type 0 where
   pub is_bad : task.stop (lines ++ line ∷ []) ≡ Some bad
   pub behind : List ℕ
   pub octets : input ≡ ended_text lines ++ (line ++ behind)
-  pub ends : ((rest : List ℕ) × (behind ≡ 10 ∷ rest)) ⊎ ((behind ≡ []) × (140100 < length line))
+  pub ends : ((rest : List ℕ) × (behind ≡ 10 ∷ rest)) ⊎ ((behind ≡ []) × (task.longest < length line))
 
 -- all lines that end were taken, and the input is at its end behind them or behind a further line, or they weren't
 abbrev pub TakesLines : Task → (List (List ℕ) → Type 0) → Result Bool Status → Option (List ℕ) → Option (List ℕ) → List ℕ
@@ -191,7 +205,7 @@ TakesLines task took (Err status) input left line before now =
 abbrev pub StatusOf : RawFault → (List (List ℕ) → Type 0) → Task → Status → Type 0
 StatusOf raw.Read took task status = status ≡ ReadFault
 StatusOf raw.TooMuch took task status = status ≡ TooLong
-StatusOf raw.LongLine took task status = (lines : List (List ℕ)) (octets : List ℕ) → took lines → 140100 < length octets
+StatusOf raw.LongLine took task status = (lines : List (List ℕ)) (octets : List ℕ) → took lines → task.longest < length octets
     → IsBad task status (lines ++ octets ∷ [])
 StatusOf raw.NoMemory took task status = status ≡ OutOfMemory
 

@@ -16,6 +16,7 @@ pub record Rule : Type 0 where
 -- what a command by this rule makes of the lines of its input
 abbrev pub transcript_task : Rule → Task
 transcript_task rule = record {
+  longest = 140000;
   stop = λ lines. (read_from (beginning rule.controls) lines).stop;
   text = λ lines. rule.text (read_from (beginning rule.controls) lines).lines;
   close = λ lines. rule.close (read_from (beginning rule.controls) lines).lines;

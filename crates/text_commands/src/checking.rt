@@ -5,7 +5,7 @@ ghost use Rattle.wire_core.specs.Counts.{Rose};
 ghost use Rattle.agent_settings.specs.declared.config.Config.{Config};
 ghost use Rattle.agent_config.specs.Settings.{settings_in};
 ghost use Rattle.printed_lines.specs.SettingsText.{settings_text};
-ghost use Rattle.text_commands.specs.Checks.{ChecksBy};
+ghost use Rattle.text_commands.specs.Checks.{ChecksBy, IsCheckEnd};
 ghost use Rattle.text_commands.specs.Tasks.{EndsCounts};
 ghost use Rattle.text_commands.specs.WholeInput.{most_whole};
 
@@ -31,6 +31,7 @@ fn lines_of(alloc: Global, config: &Config) -> Result<Octets, Status>
 /// Reads settings, a TOML document of at most 2^20 octets, and prints them as lines of a transcript.
 pub fn check<S: Source, K: Sink>(alloc: Global, input: &mut S, output: &mut K) -> Status
     ensures begun { result ≢ Status.Usage }
+    ensures known { IsCheckEnd result }
     ensures ends { (X : List ℕ) → S.left input.old ≡ Some X
         → ChecksBy result X (S.left input.new) (K.written output.old) (K.written output.new) }
     ensures counts { EndsCounts result (S.ends input.old) (S.ends input.new) (S.faults input.old) (S.faults input.new)

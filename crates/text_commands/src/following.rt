@@ -4,7 +4,7 @@ ghost use Rattle.std.specs.Prelude.{◌≡◌, ◌≢◌, ◌≤◌, ◌⊎◌, 
 ghost use Rattle.wire_core.specs.Counts.{Rose};
 ghost use Rattle.text_commands.specs.Following.{Takes};
 ghost use Rattle.text_commands.specs.Status.{fault_status};
-ghost use Rattle.text_commands.specs.Tasks.{ClosesWith, EndsBy, EndsCounts};
+ghost use Rattle.text_commands.specs.Tasks.{ClosesWith, EndsBy, EndsCounts, IsLinesEnd};
 ghost use Rattle.text_commands.specs.Transcripts.{FollowsLine, Rule, transcript_task};
 ghost use Rattle.transcript.specs.Positions.{IsReading};
 ghost use Rattle.transcript.specs.Reading.{beginning};
@@ -16,6 +16,7 @@ ghost use Rattle.transcript.specs.declared.line.Line as said;
 use crate::work::{Work, run};
 use agent_status::Status;
 use std::alloc::Global;
+use text_lines::LONGEST_LINE;
 use transcript::{Line, LineFault, LineReader};
 use wire_core::{NoMemory, Sink, Source};
 
@@ -99,6 +100,10 @@ impl<F: Follower> Work for TranscriptWork<F> {
         self.follower.close(alloc, sink)
     }
 
+    fn longest_line(&self) -> usize {
+        LONGEST_LINE
+    }
+
     fn too_long(&self) -> Status {
         line_status(self.reader.too_long())
     }
@@ -115,6 +120,7 @@ pub fn follow_transcript<F: Follower + Drop, S: Source, K: Sink>(
 ) -> Status
     requires { F.followed follower [] }
     ensures begun { result ≢ Status.Usage }
+    ensures known { IsLinesEnd result }
     ensures ends { (X : List ℕ) → S.left input.old ≡ Some X
         → EndsBy (transcript_task F.rule) result X (S.left input.new) (K.written output.old) (K.written output.new) }
     ensures counts { EndsCounts result (S.ends input.old) (S.ends input.new) (S.faults input.old) (S.faults input.new)

@@ -6,12 +6,13 @@ ghost use Rattle.printed_lines.specs.Show.{show_line};
 ghost use Rattle.text_lines.specs.Streams.{most_octets};
 ghost use Rattle.text_lines.specs.Words.{lines_of};
 ghost use Rattle.text_commands.specs.Shown.{Shows, ShowsNot, show_task};
-ghost use Rattle.text_commands.specs.Tasks.{EndsBy, EndsCounts};
+ghost use Rattle.text_commands.specs.Tasks.{EndsBy, EndsCounts, IsLinesEnd};
 
 use crate::work::{Work, run, write_text};
 use agent_status::Status;
 use printed_lines::ShowFault;
 use std::alloc::Global;
+use text_lines::LONGEST_LINE;
 use wire_core::{Octets, Sink, Source};
 
 /// How many lines were shown. A count stands still at its end.
@@ -66,6 +67,10 @@ impl Work for ShowWork {
         Status::Done
     }
 
+    fn longest_line(&self) -> usize {
+        LONGEST_LINE
+    }
+
     fn too_long(&self) -> Status {
         Status::BadTranscript {
             line: number_after(self.lines),
@@ -80,6 +85,7 @@ impl Work for ShowWork {
 /// it. Each line's text is written before the next line is read.
 pub fn show<S: Source, K: Sink>(alloc: Global, input: &mut S, output: &mut K) -> Status
     ensures begun { result ≢ Status.Usage }
+    ensures known { IsLinesEnd result }
     ensures ends { (X : List ℕ) → S.left input.old ≡ Some X
         → EndsBy show_task result X (S.left input.new) (K.written output.old) (K.written output.new) }
     ensures counts { EndsCounts result (S.ends input.old) (S.ends input.new) (S.faults input.old) (S.faults input.new)

@@ -3,7 +3,7 @@
 ghost use Rattle.std.specs.Prelude.{◌≡◌, ◌≢◌, ◌<◌, ◌≤◌, ◌∷◌, [], ◌++◌, List, ℕ, length, Some, None, Ok, Err, OnOk, IfErr};
 ghost use Rattle.wire_core.specs.Counts.{Rose};
 ghost use Rattle.wire_core.specs.Sink.{Appends, AppendsPrefix};
-ghost use Rattle.text_commands.specs.Tasks.{Closes, EndsBy, EndsCounts, Finishes, IsBad, IsTask, StatusOf, TakesCounts, TakesLines, Task, Works};
+ghost use Rattle.text_commands.specs.Tasks.{Closes, EndsBy, EndsCounts, Finishes, IsBad, IsLinesEnd, IsTask, StatusOf, TakesCounts, TakesLines, Task, Works};
 
 use agent_status::Status;
 use std::alloc::Global;
@@ -34,9 +34,13 @@ pub trait Work {
         ensures fault { result ≡ Status.WriteFault → Rose (K.faults sink.old) (K.faults sink.new) }
         ensures faults_stay { K.faults sink.old ≤ K.faults sink.new };
 
+    /// How many octets a line has at most.
+    fn longest_line(&self) -> usize
+        ensures { result ≡ (task self.now).longest };
+
     /// How the command ends at a line that has more octets than a line may have.
     fn too_long(&self) -> Status
-        ensures { (lines : List (List ℕ)) (octets : List ℕ) → took self.now lines → 140100 < length octets
+        ensures { (lines : List (List ℕ)) (octets : List ℕ) → took self.now lines → (task self.now).longest < length octets
             → IsBad (task self.now) result (lines ++ octets ∷ []) };
 
     /// A bad line prints nothing, and what follows it changes nothing.
@@ -75,6 +79,7 @@ fn finish<W: Work, K: Sink>(alloc: Global, work: &mut W, line: &[u8], output: &m
     requires { (lines : List (List ℕ)) × W.took work.old lines }
     ensures finishes { (lines : List (List ℕ)) → W.took work.old lines
         → Finishes (W.task work.old) result lines line.now (K.written output.old) (K.written output.new) }
+    ensures known { IsLinesEnd result }
     ensures fault { result ≡ Status.WriteFault → Rose (K.faults output.old) (K.faults output.new) }
     ensures faults_stay { K.faults output.old ≤ K.faults output.new }
 {
@@ -95,9 +100,11 @@ pub fn take_lines<W: Work, S: Source, K: Sink>(
 ) -> Result<bool, Status>
     requires first { W.took work.old [] }
     requires untaken { (lines.old.held.octets ≡ []) × (lines.old.held.passed ≡ 0) }
+    requires limit { lines.old.longest ≡ (W.task work.old).longest }
     ensures same { W.task work.new ≡ W.task work.old }
     ensures takes { TakesLines (W.task work.old) (λ taken. W.took work.new taken) result (S.left input.old) (S.left input.new) lines.new.line
         (K.written output.old) (K.written output.new) }
+    ensures known { IfErr result IsLinesEnd }
     ensures counts { TakesCounts result (S.ends input.old) (S.ends input.new) (S.faults input.old) (S.faults input.new)
         (K.faults output.old) (K.faults output.new) }
     ensures faults_stay { K.faults output.old ≤ K.faults output.new }
@@ -125,6 +132,7 @@ pub fn run<W: Work, S: Source, K: Sink>(
 ) -> Status
     requires { W.took work.old [] }
     ensures begun { result ≢ Status.Usage }
+    ensures known { IsLinesEnd result }
     ensures ends { (X : List ℕ) → S.left input.old ≡ Some X
         → EndsBy (W.task work.old) result X (S.left input.new) (K.written output.old) (K.written output.new) }
     ensures counts { EndsCounts result (S.ends input.old) (S.ends input.new) (S.faults input.old) (S.faults input.new)
@@ -132,7 +140,7 @@ pub fn run<W: Work, S: Source, K: Sink>(
 {
     work.is_task();
     // The memory of the reading is taken first: where it is wanting, the input is as it was.
-    let Ok(mut lines) = RawLines::new(alloc) else {
+    let Ok(mut lines) = RawLines::new(alloc, work.longest_line()) else {
         return Status::OutOfMemory;
     };
     match take_lines(alloc, work, &mut lines, input, output) {

@@ -76,29 +76,29 @@ Consumes-held c left = record { front = refl }
 pub cut-fault : (fault : RawFault) (before left : Option (List ℕ)) (old mid new : Cutting)
     → Consumes before (rest_of mid left) mid.line → IsUnended mid.line
     → mid.held.passed ≡ old.held.passed + length mid.line → mid.held.passed + length mid.held.octets ≤ most_octets
-    → Cuts (Err fault) mid new → TakesNone fault before left old new
-cut-fault raw.Read before left old mid new taken unended passed within cuts = absurd cuts
-cut-fault raw.TooMuch before left old mid new taken unended passed within cuts = absurd cuts
-cut-fault raw.NoMemory before left old mid new taken unended passed within cuts = (mid.line ++ mid.held.octets, Consumes-append taken (Consumes-held mid left))
-cut-fault raw.LongLine before left old mid new taken unended passed within (piece, (more, whole, is, long)) =
+    → mid.longest ≡ old.longest → Cuts (Err fault) mid new → TakesNone fault before left old new
+cut-fault raw.Read before left old mid new taken unended passed within limit cuts = absurd cuts
+cut-fault raw.TooMuch before left old mid new taken unended passed within limit cuts = absurd cuts
+cut-fault raw.NoMemory before left old mid new taken unended passed within limit cuts = (mid.line ++ mid.held.octets, Consumes-append taken (Consumes-held mid left))
+cut-fault raw.LongLine before left old mid new taken unended passed within limit (piece, (more, whole, is, long)) =
     let front = ap (λ xs. mid.line ++ xs) is ∙ sym (append_assoc mid.line piece more) in (
       mid.line ++ piece,
       (
         more,
         unended-append mid.line piece unended whole,
         subst (λ xs. Consumes before left xs) front (Consumes-append taken (Consumes-held mid left)),
-        omega (arith, length-append mid.line piece),
+        omega (arith, limit, long, length-append mid.line piece),
         omega (arith, passed, within, ap length is, length-append mid.line piece, length-append piece more, length-append (mid.line ++ piece) more),
       ),
     )
 
 pub refill-fault : (taking : TakeFault) (fault : RawFault) (before then left : Option (List ℕ)) (old new : Cutting) (held after : Held) (line : List ℕ)
-    → IsTakeFault taking fault → Consumes before then line → IsUnended line → held.passed ≡ old.held.passed + length line
-    → Refills (Err taking) then left held after → TakesNone fault before left old new
-refill-fault take.Read fault before then left old new held after line is taken unended passed refills =
-    rw is (line, unended, subst (λ l. Consumes before l line) (sym refills.0) taken)
-refill-fault take.TooMuch fault before then left old new held after line is taken unended passed (full, same, (x, more)) =
-    rw is (line, (x, unended, Consumes-append taken more, sym passed ∙ full))
+    → IsTakeFault taking fault → Consumes before then line → IsUnended line → length line ≤ old.longest
+    → held.passed ≡ old.held.passed + length line → Refills (Err taking) then left held after → TakesNone fault before left old new
+refill-fault take.Read fault before then left old new held after line is taken unended short passed refills =
+    rw is (line, unended, subst (λ l. Consumes before l line) (sym refills.0) taken, short)
+refill-fault take.TooMuch fault before then left old new held after line is taken unended short passed (full, same, (x, more)) =
+    rw is (line, (x, unended, Consumes-append taken more, short, sym passed ∙ full))
 
 -- where no line ends within what is held, all of it belongs to the present line
 pub cut-whole : (before left : Option (List ℕ)) (old mid new : Cutting)

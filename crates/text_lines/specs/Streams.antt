@@ -38,10 +38,11 @@ abbrev pub IsFirstPiece : Bool → List ℕ → List ℕ → Type 0
 IsFirstPiece true xs piece = IsUnended piece × (xs ≡ piece ++ 10 ∷ drop (length piece + 1) xs)
 IsFirstPiece false xs piece = IsUnended piece × (xs ≡ piece)
 
--- the present line as far as it was taken, and what is held besides
+-- the present line as far as it was taken, what is held besides, and how many octets a line has at most
 pub record Cutting : Type 0 where
   pub line : List ℕ
   pub held : Held
+  pub longest : ℕ
 
 -- more of the present line: all of it, as much as is held, or more than a line may have
 abbrev pub Cuts : Result Bool RawFault → Cutting → Cutting → Type 0
@@ -50,7 +51,7 @@ Cuts (Ok true) old new = (piece : List ℕ) × IsUnended piece × (old.held.octe
 Cuts (Ok false) old new = IsUnended old.held.octets × (new.held.octets ≡ [])
     × (new.line ≡ old.line ++ old.held.octets) × (new.held.passed ≡ old.held.passed + length old.held.octets)
 Cuts (Err raw.LongLine) old new = (piece : List ℕ) × ((more : List ℕ) × IsUnended piece
-    × (old.held.octets ≡ piece ++ more) × (140100 < length old.line + length piece))
+    × (old.held.octets ≡ piece ++ more) × (old.longest < length old.line + length piece))
 Cuts (Err raw.NoMemory) old new = ⊤
 Cuts (Err fault) old new = ⊥
 
@@ -72,13 +73,13 @@ SourceEnded (Ok LastLine) = ⊤
 SourceEnded (Ok End) = ⊤
 SourceEnded (Err fault) = ⊥
 
--- why there is none: these octets of a line came before the source failed, or before it gave more than may be
--- taken of it, or were too many for one line, or these octets were taken before memory was wanting
+-- why there is none: these octets of a line, no more than a line may have, came before the source failed, or before it gave
+-- more than may be taken of it; or they were too many for one line; or these octets were taken before memory was wanting
 abbrev pub TakesNone : RawFault → Option (List ℕ) → Option (List ℕ) → Cutting → Cutting → Type 0
-TakesNone raw.Read before left old new = (xs : List ℕ) × IsUnended xs × Consumes before left xs
+TakesNone raw.Read before left old new = (xs : List ℕ) × IsUnended xs × Consumes before left xs × (length xs ≤ old.longest)
 TakesNone raw.TooMuch before left old new = (xs : List ℕ) × ((x : ℕ) × IsUnended xs × Consumes before left (xs ++ x ∷ [])
-    × (old.held.passed + length xs ≡ most_octets))
-TakesNone raw.LongLine before left old new = (xs : List ℕ) × ((more : List ℕ) × IsUnended xs × Consumes before left (xs ++ more) × (140100 < length xs)
+    × (length xs ≤ old.longest) × (old.held.passed + length xs ≡ most_octets))
+TakesNone raw.LongLine before left old new = (xs : List ℕ) × ((more : List ℕ) × IsUnended xs × Consumes before left (xs ++ more) × (old.longest < length xs)
     × (old.held.passed + length (xs ++ more) ≤ most_octets))
 TakesNone raw.NoMemory before left old new = (xs : List ℕ) × Consumes before left xs
 

@@ -6,7 +6,7 @@ use Rattle.std.specs.List.{list_all, slice_split}
 use Rattle.std.specs.Str.{bytes_eq}
 use Rattle.std.specs.Str.Parse.{digits_value}
 use Rattle.hex.specs.Hex.{decode_of}
-use Rattle.agent_config.specs.Values.{address_in}
+use Rattle.address_text.specs.Address.{address_in}
 
 -- an octet in front of lines: 0a ends an empty one, another octet joins the first
 abbrev pub in_front : Bool → ℕ → List (List ℕ) → List (List ℕ)

@@ -6,6 +6,6 @@ mod raw_lines;
 mod word_fault;
 pub mod words;
 
-pub use raw_lines::{RawFault, RawLine, RawLines, first_piece};
+pub use raw_lines::{LONGEST_LINE, RawFault, RawLine, RawLines, first_piece};
 pub use word_fault::WordFault;
 pub use words::number_in;

@@ -10,8 +10,8 @@ use std::alloc::{AllocError, Global};
 use std::marker::Model;
 use wire_core::{NoMemory, Source};
 
-/// How many octets a line of any text has at most: one of a journal, which has two in front of a transcript's line.
-const LONGEST_LINE: usize = 140_100;
+/// How many octets a line has at most, where no other limit is said.
+pub const LONGEST_LINE: usize = 140_000;
 
 /// Why there is no next line.
 #[derive(Clone, Copy, PartialEq, Eq)]
@@ -82,6 +82,7 @@ pub fn first_piece(octets: &[u8]) -> (&[u8], bool)
 pub struct RawLines {
     intake: Intake,
     line: Vec<u8>,
+    longest: usize,
 }
 
 impl Model for RawLines {
@@ -90,19 +91,20 @@ impl Model for RawLines {
 
     ghost Value = { Cutting };
 
-    ghost view = { λ r. record { line = r.line.items; held = r.intake } };
+    ghost view = { λ r. record { line = r.line.items; held = r.intake; longest = r.longest } };
 
     ghost invariant = { λ r. r.intake.passed + length r.intake.octets ≤ most_octets };
 }
 
 impl RawLines {
-    /// Nothing is taken yet.
-    pub fn new(alloc: Global) -> Result<RawLines, NoMemory>
-        ensures { IfOk result (λ r. (r.held.octets ≡ []) × (r.held.passed ≡ 0)) }
+    /// Nothing is taken yet, and no line may have more octets than this.
+    pub fn new(alloc: Global, longest: usize) -> Result<RawLines, NoMemory>
+        ensures { IfOk result (λ r. (r.held.octets ≡ []) × (r.held.passed ≡ 0) × (r.longest ≡ longest)) }
     {
         Ok(RawLines {
             intake: Intake::new(alloc)?,
             line: Vec::new(alloc),
+            longest,
         })
     }
 
@@ -118,11 +120,12 @@ impl RawLines {
         ensures cuts { Cuts result self.old self.new }
         ensures within { self.new.held.passed + length self.new.held.octets ≤ most_octets }
         ensures grows { self.old.held.passed ≤ self.new.held.passed }
-        ensures short { OnOk result (length self.new.line ≤ 140100) }
+        ensures short { OnOk result (length self.new.line ≤ self.old.longest) }
+        ensures limit { self.new.longest ≡ self.old.longest }
     {
         let (piece, ends) = first_piece(self.intake.octets());
         let count = piece.len();
-        if self.line.len() + count > LONGEST_LINE {
+        if self.line.len() + count > self.longest {
             return Err(RawFault::LongLine);
         }
         self.line.extend_from_slice(piece)?;
@@ -134,7 +137,8 @@ impl RawLines {
     pub fn next_line<S: Source>(&mut self, source: &mut S) -> Result<RawLine, RawFault>
         ensures line { IfOk result (λ line. TakesRawLine line (rest_of self.old (S.left source.old)) (rest_of self.new (S.left source.new)) self.old self.new) }
         ensures unended { IfOk result (λ line. IsUnended self.new.line) }
-        ensures short { OnOk result (length self.new.line ≤ 140100) }
+        ensures short { OnOk result (length self.new.line ≤ self.old.longest) }
+        ensures limit { self.new.longest ≡ self.old.longest }
         ensures within { self.new.held.passed + length self.new.held.octets ≤ most_octets }
         ensures grows { self.old.held.passed ≤ self.new.held.passed }
         ensures fault { IfErr result (λ fault. TakesNone fault (rest_of self.old (S.left source.old)) (S.left source.new) self.old self.new) }

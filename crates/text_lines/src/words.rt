@@ -3,7 +3,7 @@
 ghost use Rattle.std.specs.Prelude.{◌≡◌, ◌==◌, ◌≤◌, ◌<◌, length, IsTrue, IfOk, IfSome};
 ghost use Rattle.std.specs.Char.{is_ascii_digit};
 ghost use Rattle.std.specs.List.{list_all, slice_split};
-ghost use Rattle.agent_config.specs.Values.{address_in};
+ghost use Rattle.address_text.specs.Address.{address_in};
 ghost use Rattle.text_lines.specs.Words as words;
 ghost use Rattle.text_lines.specs.Reads.{Reads};
 ghost use Rattle.text_lines.specs.Views.{plain};
@@ -87,7 +87,7 @@ pub fn read_u32(word: &[u8]) -> Result<u32, WordFault>
 pub fn read_address(word: &[u8]) -> Result<u32, WordFault>
     ensures { Reads result (address_in word.now) }
 {
-    agent_config::read_address(word).ok_or(WordFault::Bad)
+    address_text::read_address(word).ok_or(WordFault::Bad)
 }
 
 /// Octets in hex, or `-` for none.

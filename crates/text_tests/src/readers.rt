@@ -85,7 +85,7 @@ fn is_next(lines: &mut RawLines, source: &mut MemorySource, end: RawLine, wanted
 /// Whether a source is cut into lines.
 fn cuts_lines(alloc: Global) -> Result<bool, NoMemory> {
     let mut source = MemorySource::new(alloc, b"ab\ncd", 4, &[])?;
-    let mut lines = RawLines::new(alloc)?;
+    let mut lines = RawLines::new(alloc, 100)?;
     Ok(
         is_next(&mut lines, &mut source, RawLine::Line, b"ab")
             && is_next(&mut lines, &mut source, RawLine::LastLine, b"cd")

@@ -8,7 +8,7 @@ use Rattle.agent_settings.specs.declared.client.Client.{Client}
 use Rattle.agent_settings.specs.declared.config.Config.{Config}
 use Rattle.agent_events.specs.declared.events.Input.{Input}
 use Rattle.text_lines.specs.Words.{words_of}
-use Rattle.generated_logins.specs.Generator.{link_line}
+use Rattle.printed_lines.specs.EventText.{link_line}
 use Rattle.transcript.specs.Grammar.{IsHex, IsNumber, SaysWords}
 use Rattle.transcript.specs.Inputs.{inputs_of, link_inputs}
 use Rattle.transcript.specs.Kinds.{kind_of}

@@ -3,7 +3,7 @@ use Rattle.std.proofs.Common.{◌≡◌, ℕ, true, List, [], ◌∷◌, length,
 use Rattle.std.proofs.lemmas.Bool.{and_parts}
 use Rattle.std.proofs.lemmas.Option.{same_Some}
 use Rattle.std.proofs.lemmas.Slice.Eq.{bytes_eq-Decides}
-use Rattle.agent_config.specs.Values.{address_in}
+use Rattle.address_text.specs.Address.{address_in}
 use Rattle.agent_events.specs.declared.events.Input.TheVariants as input
 use Rattle.text_lines.specs.Words.{hex_word, number_word}
 use Rattle.text_lines.proofs.WordLemmas.{bind-some}

@@ -11,7 +11,7 @@ use Rattle.std.proofs.lemmas.List.Elements.{All-append, All-cons, All-head, All-
 use Rattle.std.proofs.lemmas.List.Splits.{join_with_byte-slice_split, length-slice_split, slice_split_at, slice_split_none}
 use Rattle.std.proofs.lemmas.Option.{same_Some}
 use Rattle.std.proofs.lemmas.Slice.Eq.{bytes_eq-Decides}
-use Rattle.agent_config.specs.Values.{address_in, alone}
+use Rattle.address_text.specs.Address.{address_in, alone}
 use Rattle.text_lines.specs.Words.{addresses_of, addresses_word, words_of}
 use Rattle.text_lines.proofs.WordLemmas.{bind-some}
 use Rattle.transcript.specs.Grammar.{IsAddress, IsAddresses, IsLine, Lacks}
@@ -94,15 +94,15 @@ decimal-lacks c n low fits =
     (λ d digits large lack. All-push (λ y. y ≢ c) digits _ lack (λ e. omega arith))
     n fits
 
--- an address has no ',' in it
-address-lacks : (word : List ℕ) (address : ℕ) → IsAddress word address → Lacks 44 word
-address-lacks word address (octets, d, is) =
-    let P : ℕ → Type 0 = λ y. y ≢ 44 in
+-- an address has no ',' in it, nor a space
+pub address-lacks : (x : ℕ) (word : List ℕ) (address : ℕ) → x < 46 → IsAddress word address → Lacks x word
+address-lacks x word address low (octets, d, is) =
+    let P : ℕ → Type 0 = λ y. y ≢ x in
     let dot : All P (codes ".") = All-cons P 46 [] (λ e. omega arith) (All-nil P) in
-    let a = decimal-lacks 44 d.a (omega arith) (omega (arith, d.fit.0)) in
-    let b = decimal-lacks 44 d.b (omega arith) (omega (arith, d.fit.1)) in
-    let c = decimal-lacks 44 d.c (omega arith) (omega (arith, d.fit.2)) in
-    let e = decimal-lacks 44 d.d (omega arith) (omega (arith, d.fit.3)) in
+    let a = decimal-lacks x d.a (omega arith) (omega (arith, d.fit.0)) in
+    let b = decimal-lacks x d.b (omega arith) (omega (arith, d.fit.1)) in
+    let c = decimal-lacks x d.c (omega arith) (omega (arith, d.fit.2)) in
+    let e = decimal-lacks x d.d (omega arith) (omega (arith, d.fit.3)) in
     All-same P word (dotted_text d.a d.b d.c d.d) d.spelled
     (All-append P _ _ (All-append P _ _ (All-append P _ _
     (All-append P _ _ (All-append P _ _ (All-append P _ _ a dot) b) dot) c) dot) e)
@@ -111,7 +111,7 @@ addresses-lack : (pieces : List (List ℕ)) (addresses : List ℕ) → AllZip Is
 addresses-lack [] addresses zip = All-nil (Lacks 44)
 addresses-lack (piece ∷ pieces) [] zip = absurd zip
 addresses-lack (piece ∷ pieces) (a ∷ addresses) zip =
-    All-cons (Lacks 44) piece pieces (address-lacks piece a zip.0) (addresses-lack pieces addresses zip.1)
+    All-cons (Lacks 44) piece pieces (address-lacks 44 piece a (lit≤ tt) zip.0) (addresses-lack pieces addresses zip.1)
 
 pieces-spelled : (pieces : List (List ℕ)) (addresses : List ℕ) → addresses_of pieces ≡ Some addresses
     → AllZip IsAddress pieces addresses

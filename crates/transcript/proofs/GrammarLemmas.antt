@@ -34,44 +34,44 @@ choice-then : {A : Type 0} (b : Bool) (why : ℕ) (r : Result A ℕ) (x : A) →
 choice-then true why r x e = (refl, e)
 choice-then false why r x e = cc
 
-record IsKind (at : At) (k : Option Kind) (words : List (List ℕ)) (said : Line) (next : At) : Type 0 where
-  found : Kind
-  is : k ≡ Some found
-  stands : may_stand at.controls at.section (length at.addresses) found ≡ true
-  says : kind_step at found words ≡ Ok (said, next)
+pub record IsKind (at : At) (k : Option Kind) (words : List (List ℕ)) (said : Line) (next : At) : Type 0 where
+  pub found : Kind
+  pub is : k ≡ Some found
+  pub stands : may_stand at.controls at.section (length at.addresses) found ≡ true
+  pub says : kind_step at found words ≡ Ok (said, next)
 
-is-kind : (at : At) (k : Option Kind) (words : List (List ℕ)) (said : Line) (next : At) → words_step at k words ≡ Ok (said, next)
+pub is-kind : (at : At) (k : Option Kind) (words : List (List ℕ)) (said : Line) (next : At) → words_step at k words ≡ Ok (said, next)
     → IsKind at k words said next
 is-kind at None words said next e = cc
 is-kind at (Some found) words said next e =
     let (stands, says) = choice-then (may_stand at.controls at.section (length at.addresses) found) 2 _ (said, next) e in
     record { found = found; is = refl; stands = stands; says = says }
 
-at-start : (controls : Bool) (s : Section) (clients : ℕ) → may_stand controls s clients kind.Agent ≡ true → s ≡ section.Start
+pub at-start : (controls : Bool) (s : Section) (clients : ℕ) → may_stand controls s clients kind.Agent ≡ true → s ≡ section.Start
 at-start controls section.Start clients e = refl
 at-start controls section.Settings clients e = cc
 at-start controls section.Events clients e = cc
 
-record InSettings (s : Section) (clients : ℕ) : Type 0 where
-  is : s ≡ section.Settings
-  few : clients < 1024
+pub record InSettings (s : Section) (clients : ℕ) : Type 0 where
+  pub is : s ≡ section.Settings
+  pub few : clients < 1024
 
-in-settings : (controls : Bool) (s : Section) (clients : ℕ) → may_stand controls s clients kind.Client ≡ true → InSettings s clients
+pub in-settings : (controls : Bool) (s : Section) (clients : ℕ) → may_stand controls s clients kind.Client ≡ true → InSettings s clients
 in-settings controls section.Start clients e = cc
 in-settings controls section.Settings clients e = record { is = refl; few = ltb-true _ _ e }
 in-settings controls section.Events clients e = cc
 
-after-start : (name : EventName) (controls : Bool) (s : Section) (clients : ℕ)
+pub after-start : (name : EventName) (controls : Bool) (s : Section) (clients : ℕ)
     → may_stand controls s clients (kind.Event name) ≡ true → s ≢ section.Start
 after-start name controls section.Start clients e is = cc
 after-start name controls section.Settings clients e is = cc
 after-start name controls section.Events clients e is = cc
 
-record MayControl (controls : Bool) (s : Section) : Type 0 where
-  asked : controls ≡ true
-  further : s ≢ section.Start
+pub record MayControl (controls : Bool) (s : Section) : Type 0 where
+  pub asked : controls ≡ true
+  pub further : s ≢ section.Start
 
-may-control : (controls : Bool) (s : Section) (clients : ℕ) → may_stand controls s clients kind.Control ≡ true → MayControl controls s
+pub may-control : (controls : Bool) (s : Section) (clients : ℕ) → may_stand controls s clients kind.Control ≡ true → MayControl controls s
 may-control controls section.Start clients e = cc
 may-control controls section.Settings clients e = record { asked = e; further = λ is. cc }
 may-control controls section.Events clients e = record { asked = e; further = λ is. cc }
@@ -189,7 +189,7 @@ client-line at words number client next s =
     (list_any_none (λ a. eqb a client.address) at.addresses (passed client.address at.addresses s.own))
     ∙ same-step _ _ _ _ (ap (λ n. line.Client n client) (sym s.counts)) (sym s.goes_on)
 
-events-stand : (name : EventName) (controls : Bool) (s : Section) (clients : ℕ) → s ≢ section.Start
+pub events-stand : (name : EventName) (controls : Bool) (s : Section) (clients : ℕ) → s ≢ section.Start
     → may_stand controls s clients (kind.Event name) ≡ true
 events-stand name controls section.Start clients further = absurd (further refl)
 events-stand name controls section.Settings clients further = refl
@@ -204,7 +204,7 @@ event-line at words number moment inputs next s =
     ∙ ap (event_step at) read.reads
     ∙ same-step _ _ _ _ (ap₂ (λ n xs. line.Event n moment xs) (sym s.counts) (sym s.gives)) (sym s.goes_on)
 
-controls-stand : (controls : Bool) (s : Section) (clients : ℕ) → controls ≡ true → s ≢ section.Start
+pub controls-stand : (controls : Bool) (s : Section) (clients : ℕ) → controls ≡ true → s ≢ section.Start
     → may_stand controls s clients kind.Control ≡ true
 controls-stand controls section.Start clients asked further = absurd (further refl)
 controls-stand controls section.Settings clients asked further = asked
@@ -218,7 +218,7 @@ control-line at words number told next s =
     ∙ ap (control_step at) (control-read words told s.is)
     ∙ same-step _ _ _ _ (ap (λ n. line.Control n told.moment told.address told.port told.octets) (sym s.counts)) (sym s.goes_on)
 
-words-read : (at : At) (words : List (List ℕ)) (said : Line) (next : At) → SaysWords at words said next
+pub words-read : (at : At) (words : List (List ℕ)) (said : Line) (next : At) → SaysWords at words said next
     → words_step at (kind_of words) words ≡ Ok (said, next)
 words-read at words (line.Agent number config) next s = agent-line at words number config next s
 words-read at words (line.Client number client) next s = client-line at words number client next s

@@ -6,7 +6,7 @@ use Rattle.std.proofs.lemmas.Slice.Eq.{bytes_eq-Decides}
 use Rattle.agent_settings.specs.declared.client.Client.{Client}
 use Rattle.agent_settings.specs.declared.config.Config.{Config}
 use Rattle.agent_settings.specs.Config.{are_settings_in_limits, is_client_in_limits}
-use Rattle.agent_config.specs.Values.{address_in}
+use Rattle.address_text.specs.Address.{address_in}
 use Rattle.agent_settings.proofs.Limits.{in_limits-new}
 use Rattle.text_lines.specs.Words.{addresses_word, choice_word, hex_word, number_word}
 use Rattle.text_lines.proofs.WordLemmas.{bind-some}

@@ -3,15 +3,16 @@ pub mod CutLemmas
 pub mod CutStreams
 pub mod Examples
 pub mod FollowLemmas
-pub mod GeneratedLemmas
 pub mod GrammarEventLemmas
 pub mod GrammarExamples
 pub mod GrammarJoinLemmas
 pub mod GrammarKindLemmas
 pub mod GrammarLemmas
 pub mod GrammarLineLemmas
+pub mod GrammarReasonLemmas
 pub mod GrammarWordLemmas
 pub mod InputLemmas
 pub mod ReadingLemmas
+pub mod RecordLemmas
 pub mod SettingsLemmas
 pub mod TakingLemmas

@@ -4,7 +4,7 @@ use Rattle.std.specs.List.{list_any}
 use Rattle.std.proofs.lemmas.Bool.{or_parts}
 use Rattle.std.proofs.lemmas.List.Elements.{All-cons, All-nil, All-same}
 use Rattle.wire_core.specs.Counts.{one_more}
-use Rattle.generated_logins.specs.Generator.{line_of}
+use Rattle.printed_lines.specs.Text.{line_of}
 use Rattle.transcript.specs.Grammar.{IsHappening, IsHex, IsLine, IsNumber, Lacks}
 use Rattle.transcript.specs.Inputs.{inputs_of, stream_after}
 use Rattle.transcript.specs.Reading.{At, read_line}
@@ -14,6 +14,13 @@ use Rattle.transcript.specs.declared.position.Section.TheVariants.{Start, Events
 use Rattle.transcript.proofs.GrammarJoinLemmas.{any-lacks, decimal-lacks}
 use Rattle.transcript.proofs.GrammarLemmas.{says-read}
 use Rattle.transcript.proofs.GrammarWordLemmas.{hex-lacks}
+
+-- behind an event line, and such a place behind so many lines of a transcript without control lines
+abbrev pub StandsBehind : At → Type 0
+StandsBehind at = at.section ≡ Events
+
+abbrev pub behind_events : List ℕ → ℕ → At
+behind_events addresses lines = record { controls = false; section = Events; addresses = addresses; stream = []; lines = lines }
 
 -- where the next line stands
 abbrev pub event_next : At → Happening → At

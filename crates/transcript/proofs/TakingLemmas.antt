@@ -94,12 +94,14 @@ long-bad fault.Long at before left old xs more unended taken long bad = absurd (
 long-bad fault.NoMemory at before left old xs more unended taken long bad = absurd (bad xs long)
 
 pub raw-none : (f : RawFault) (why : LineFault) (at : At) (before left : Option (List ℕ)) (old new : Cutting)
-    → TakesNone f before left old new → IsOfLine f at why → ReadsNone why at before left old
-raw-none raw.Read why at before left old new takes is = subst (λ w. ReadsNone w at before left old) (sym is) takes
-raw-none raw.TooMuch why at before left old new takes is = subst (λ w. ReadsNone w at before left old) (sym is) takes
-raw-none raw.NoMemory why at before left old new takes is = subst (λ w. ReadsNone w at before left old) (sym is) takes
-raw-none raw.LongLine why at before left old new (xs, (more, unended, taken, long, within)) is =
-    long-bad why at before left old xs more unended taken (omega (arith, long)) is
+    → old.longest ≡ 140000 → TakesNone f before left old new → IsOfLine f at why → ReadsNone why at before left old
+raw-none raw.Read why at before left old new limit (xs, unended, takes, short) is =
+    subst (λ w. ReadsNone w at before left old) (sym is) (xs, unended, takes, omega (arith, limit, short))
+raw-none raw.TooMuch why at before left old new limit (xs, (x, unended, takes, short, full)) is =
+    subst (λ w. ReadsNone w at before left old) (sym is) (xs, (x, unended, takes, omega (arith, limit, short), full))
+raw-none raw.NoMemory why at before left old new limit takes is = subst (λ w. ReadsNone w at before left old) (sym is) takes
+raw-none raw.LongLine why at before left old new limit (xs, (more, unended, taken, long, within)) is =
+    long-bad why at before left old xs more unended taken (omega (arith, limit, long)) is
 
 long-read : (why : LineFault) (at : At) (octets : List ℕ) → 140000 < length octets → TooLong why at → why ≡ fault.Read → ⊥
 long-read fault.Read at octets long bad is = bad octets long
@@ -110,12 +112,13 @@ long-read fault.NoMemory at octets long bad is = cc
 abbrev Answered : Type 0
 Answered = Result (Option Line) LineFault
 
-raw-read : (f : RawFault) (why : LineFault) (at : At) (before left : Option (List ℕ)) (old new : Cutting) → TakesNone f before left old new → IsOfLine f at why
-    → why ≡ fault.Read → f ≡ raw.Read
-raw-read raw.Read why at before left old new takes is read = refl
-raw-read raw.TooMuch why at before left old new takes is read = cc (is, read)
-raw-read raw.NoMemory why at before left old new takes is read = cc (is, read)
-raw-read raw.LongLine why at before left old new (xs, (more, unended, taken, long, within)) is read = absurd (long-read why at xs (omega (arith, long)) is read)
+raw-read : (f : RawFault) (why : LineFault) (at : At) (before left : Option (List ℕ)) (old new : Cutting) → old.longest ≡ 140000 → TakesNone f before left old new
+    → IsOfLine f at why → why ≡ fault.Read → f ≡ raw.Read
+raw-read raw.Read why at before left old new limit takes is read = refl
+raw-read raw.TooMuch why at before left old new limit takes is read = cc (is, read)
+raw-read raw.NoMemory why at before left old new limit takes is read = cc (is, read)
+raw-read raw.LongLine why at before left old new limit (xs, (more, unended, taken, long, within)) is read =
+    absurd (long-read why at xs (omega (arith, limit, long)) is read)
 
 read-raw : (f : RawFault) (why : LineFault) (at : At) → IsOfLine f at why → f ≡ raw.Read → why ≡ fault.Read
 read-raw raw.Read why at is read = is
@@ -124,9 +127,9 @@ read-raw raw.NoMemory why at is read = cc
 read-raw raw.LongLine why at is read = cc
 
 pub raw-counts : (f : RawFault) (why : LineFault) (at : At) (before left : Option (List ℕ)) (old new : Cutting) (then now : ℕ)
-    → TakesNone f before left old new → IsOfLine f at why → Counts (f ≡ raw.Read) then now → (let answer : Answered = Err why in Counts (answer ≡ Err fault.Read) then now)
-raw-counts f why at before left old new then now takes is counts = record {
-  rises = λ e. counts.rises (raw-read f why at before left old new takes is cc);
+    → old.longest ≡ 140000 → TakesNone f before left old new → IsOfLine f at why → Counts (f ≡ raw.Read) then now → (let answer : Answered = Err why in Counts (answer ≡ Err fault.Read) then now)
+raw-counts f why at before left old new then now limit takes is counts = record {
+  rises = λ e. counts.rises (raw-read f why at before left old new limit takes is cc);
   stays = λ not. counts.stays (λ read. not (ap (λ w. Err w) (read-raw f why at is read)));
   never_falls = counts.never_falls;
 }

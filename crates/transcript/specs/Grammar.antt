@@ -1,5 +1,5 @@
 -- The grammar of a transcript's lines: what a line is, and what it says, apart from how it is read (profile).
-use Rattle.std.specs.Prelude.{◌≡◌, ◌≢◌, ℕ, ◌<◌, ◌≤◌, Bool, true, false, List, [], ◌∷◌, ◌++◌, length, map, codes, decimal, All, Some, Ok, ◌↔◌}
+use Rattle.std.specs.Prelude.{◌≡◌, ◌≢◌, ℕ, ◌<◌, ◌≤◌, ◌⊎◌, Bool, true, false, List, [], ◌∷◌, ◌++◌, length, map, codes, decimal, All, Some, Ok, Err, ◌↔◌}
 use Rattle.std.specs.Char.{to_ascii_lowercase}
 use Rattle.std.specs.List.{AllZip, join_with_byte}
 use Rattle.std.specs.Net.Grammar.{IsDotted}
@@ -202,3 +202,68 @@ pub record Says (at : At) (octets : List ℕ) (said : Line) (next : At) : Type 0
 abbrev pub LinesHaveAGrammar : Type 0
 LinesHaveAGrammar = (at : At) (octets : List ℕ) (said : Line) (next : At)
     → read_line at octets ≡ Ok (said, next) ↔ Says at octets said next
+
+-- ---- why a line is bad
+
+abbrev pub BeginsWith : List ℕ → List (List ℕ) → Type 0
+BeginsWith name words = (behind : List (List ℕ)) × (words ≡ name ∷ behind)
+
+-- the second word is one of these
+abbrev pub IsNamed : List (List ℕ) → List (List ℕ) → Type 0
+IsNamed [] words = ⊥
+IsNamed (name ∷ names) words = ((first : List ℕ) × ((behind : List (List ℕ)) × (words ≡ first ∷ name ∷ behind))) ⊎ IsNamed names words
+
+-- so many words as a line of this kind has, and its fixed words
+abbrev pub IsAgentForm : List (List ℕ) → Type 0
+IsAgentForm words = ((length words ≡ 10) ⊎ (length words ≡ 11)) × BeginsWith (codes "agent") words
+
+abbrev pub IsClientForm : List (List ℕ) → Type 0
+IsClientForm words = (length words ≡ 9) × BeginsWith (codes "client") words
+
+abbrev pub IsEventForm : List (List ℕ) → Type 0
+IsEventForm words =
+    ((length words ≡ 5) × IsNamed (codes "auth" ∷ codes "acct" ∷ []) words)
+    ⊎ ((length words ≡ 3) × IsNamed (codes "link" ∷ []) words)
+    ⊎ ((length words ≡ 2)
+    × IsNamed (codes "up" ∷ codes "ready" ∷ codes "down" ∷ codes "tick" ∷ codes "drain" ∷ codes "leave" ∷ []) words)
+
+abbrev pub IsControlForm : List (List ℕ) → Type 0
+IsControlForm words = (length words ≡ 5) × IsNamed (codes "control" ∷ []) words
+
+-- a line of this count of words and with these fixed words may stand here
+abbrev pub MayStand : At → List (List ℕ) → Type 0
+MayStand at words =
+    ((at.section ≡ Start) × IsAgentForm words)
+    ⊎ ((at.section ≡ Settings) × (length at.addresses < 1024) × IsClientForm words)
+    ⊎ ((at.section ≢ Start) × IsEventForm words)
+    ⊎ ((at.section ≢ Start) × (at.controls ≡ true) × IsControlForm words)
+
+-- each of its words is of its kind and within its limits
+abbrev pub AreOfKinds : List (List ℕ) → Type 0
+AreOfKinds words =
+    ((config : Config) × IsAgent words config)
+    ⊎ ((client : Client) × IsClient words client)
+    ⊎ ((moment : ℕ) × ((told : Happening) × IsEvent words moment told))
+    ⊎ ((told : Control) × IsControl words told)
+
+-- a client's address came before
+abbrev pub IsSecondClient : At → List (List ℕ) → Type 0
+IsSecondClient at words = (client : Client) × IsClient words client × ¬ Lacks client.address at.addresses
+
+-- 2, no line of this count of words and with these fixed words may stand here; 3, a word isn't of its kind or not within its
+-- limits; 4, a client's address came before
+abbrev pub AreBadFor : At → List (List ℕ) → ℕ → Type 0
+AreBadFor at words reason =
+    ((reason ≡ 2) × ¬ MayStand at words)
+    ⊎ ((reason ≡ 3) × MayStand at words × ¬ AreOfKinds words)
+    ⊎ ((reason ≡ 4) × MayStand at words × IsSecondClient at words)
+
+-- 1, the line has more than 140,000 octets; or its words are bad
+abbrev pub IsBadFor : At → List ℕ → ℕ → Type 0
+IsBadFor at octets reason =
+    ((reason ≡ 1) × (140000 < length octets))
+    ⊎ ((length octets ≤ 140000) × ((words : List (List ℕ)) × IsLine octets words × AreBadFor at words reason))
+
+-- the reader refuses exactly these lines, and each for its reason
+abbrev pub LinesAreBadForAReason : Type 0
+LinesAreBadForAReason = (at : At) (octets : List ℕ) (reason : ℕ) → read_line at octets ≡ Err reason ↔ IsBadFor at octets reason

@@ -1,4 +1,3 @@
-pub mod GeneratorLaws
 pub mod Grammar
 pub mod Inputs
 pub mod Kinds
@@ -6,5 +5,6 @@ pub mod Lines
 pub mod Positions
 pub mod Reading
 pub mod Taking
+pub mod Records
 pub mod Told
 pub mod Views

@@ -4,7 +4,7 @@ use Rattle.radius_packet.specs.declared.reasons.Via.{Via}
 use Rattle.agent_settings.specs.declared.client.Client.{Client}
 use Rattle.agent_settings.specs.declared.config.Config.{Config}
 use Rattle.agent_settings.specs.Config.{are_settings_in_limits, is_client_in_limits}
-use Rattle.agent_config.specs.Values.{address_in}
+use Rattle.address_text.specs.Address.{address_in}
 use Rattle.agent_events.specs.declared.events.Input.TheVariants as input
 use Rattle.text_lines.specs.Words.{◌>>=◌, number_word, hex_word, choice_word, addresses_word}
 use Rattle.transcript.specs.declared.control.Control.{Control}

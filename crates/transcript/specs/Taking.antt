@@ -1,5 +1,5 @@
 -- What is taken of a source for the next line of a transcript.
-use Rattle.std.specs.Prelude.{◌≡◌, ℕ, ◌+◌, ◌<◌, Bool, true, false, List, [], ◌∷◌, ◌++◌, length, Option, Some, None, Result, Ok, Err}
+use Rattle.std.specs.Prelude.{◌≡◌, ℕ, ◌+◌, ◌<◌, ◌≤◌, Bool, true, false, List, [], ◌∷◌, ◌++◌, length, Option, Some, None, Result, Ok, Err}
 use Rattle.wire_core.specs.Source.{Consumes, IsAtEnd}
 use Rattle.text_lines.specs.Streams.{Cutting, IsUnended, most_octets}
 use Rattle.text_lines.specs.Words.{lines_of}
@@ -34,12 +34,13 @@ pub record FirstIsBad (at : At) (fault : LineFault) (xs : List ℕ) : Type 0 whe
   pub lines : lines_of xs ≡ octets ∷ more
   pub bad : TakesBad fault at (read_line at octets)
 
--- why no line was read: the source failed within it, it is bad, the source has too many octets, or memory was wanting
+-- why no line was read: the source failed within it, it is bad, the source has too many octets, or memory was wanting. Of a
+-- line that isn't bad no more octets were taken than a line may have.
 abbrev pub ReadsNone : LineFault → At → Option (List ℕ) → Option (List ℕ) → Cutting → Type 0
-ReadsNone fault.Read at before left old = (xs : List ℕ) × IsUnended xs × Consumes before left xs
+ReadsNone fault.Read at before left old = (xs : List ℕ) × IsUnended xs × Consumes before left xs × (length xs ≤ 140000)
 ReadsNone (fault.Bad number reason) at before left old = (xs : List ℕ) → before ≡ Some xs → FirstIsBad at (fault.Bad number reason) xs
 ReadsNone fault.Long at before left old = (xs : List ℕ) × ((x : ℕ) × IsUnended xs × Consumes before left (xs ++ x ∷ [])
-    × (old.held.passed + length xs ≡ most_octets))
+    × (length xs ≤ 140000) × (old.held.passed + length xs ≡ most_octets))
 ReadsNone fault.NoMemory at before left old = (xs : List ℕ) × Consumes before left xs
 
 -- what asking for the next line answers

@@ -1,13 +1,8 @@
 //! Laws of transcripts, for all lines.
 
-ghost use Rattle.transcript.specs.GeneratorLaws.{GeneratedLinesAreSound};
-ghost use Rattle.transcript.specs.Grammar.{LinesHaveAGrammar};
+ghost use Rattle.transcript.specs.Grammar.{LinesAreBadForAReason, LinesHaveAGrammar};
+ghost use Rattle.transcript.specs.Records.{EventLinesAreRead};
 ghost use Rattle.transcript.specs.Told.{LinesCanFollow};
-
-/// No line of a generated transcript is bad.
-pub fn generated_lines_are_sound()
-    ensures { GeneratedLinesAreSound }
-{}
 
 /// A line that was read can be followed, and the next one then too.
 pub fn lines_can_follow()
@@ -19,4 +14,14 @@ pub fn lines_can_follow()
 /// The reader accepts exactly the lines of the grammar, and reads of each what it says.
 pub fn lines_have_a_grammar()
     ensures { LinesHaveAGrammar }
+{}
+
+/// The reader refuses exactly the lines that have one of the four reasons, and each for its reason.
+pub fn lines_are_bad_for_a_reason()
+    ensures { LinesAreBadForAReason }
+{}
+
+/// Inputs that lines can tell are read again from their lines.
+pub fn event_lines_are_read()
+    ensures { EventLinesAreRead }
 {}

@@ -13,7 +13,9 @@ mod position;
 mod reader;
 mod settings;
 
-pub use laws::{generated_lines_are_sound, lines_can_follow, lines_have_a_grammar};
+pub use laws::{
+    event_lines_are_read, lines_are_bad_for_a_reason, lines_can_follow, lines_have_a_grammar,
+};
 pub use line::{Inputs, Line};
 pub use line_fault::LineFault;
 pub use lines::Lines;

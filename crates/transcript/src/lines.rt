@@ -13,7 +13,7 @@ use crate::line::Line;
 use crate::line_fault::LineFault;
 use crate::reader::LineReader;
 use std::alloc::Global;
-use text_lines::{RawFault, RawLine, RawLines};
+use text_lines::{LONGEST_LINE, RawFault, RawLine, RawLines};
 use wire_core::{NoMemory, Source};
 
 /// The lines of a transcript, read from a source as they are asked for. Contracts see the source, what is held of it,
@@ -34,11 +34,11 @@ impl<'a, S: Source> Lines<'a, S> {
         reader: LineReader,
     ) -> Result<Lines<'a, S>, NoMemory>
         ensures { IfOk result (λ lines. (lines.source.ghost_name ≡ source.entry.ghost_name) × (lines.source.now ≡ source.old)
-            × (lines.raw.held.octets ≡ []) × (lines.raw.held.passed ≡ 0) × (lines.reader ≡ reader) × (lines.is_ended ≡ false)) }
+            × (lines.raw.held.octets ≡ []) × (lines.raw.held.passed ≡ 0) × (lines.raw.longest ≡ 140000) × (lines.reader ≡ reader) × (lines.is_ended ≡ false)) }
     {
         Ok(Lines {
             source,
-            raw: RawLines::new(alloc)?,
+            raw: RawLines::new(alloc, LONGEST_LINE)?,
             reader,
             is_ended: false,
         })
@@ -47,7 +47,7 @@ impl<'a, S: Source> Lines<'a, S> {
     /// The lines of this source, of which nothing is taken yet.
     pub fn new(alloc: Global, source: &'a mut S) -> Result<Lines<'a, S>, NoMemory>
         ensures { IfOk result (λ lines. (lines.source.ghost_name ≡ source.entry.ghost_name) × (lines.source.now ≡ source.old)
-            × (lines.raw.held.octets ≡ []) × (lines.raw.held.passed ≡ 0) × IsReading lines.reader start × (lines.is_ended ≡ false)) }
+            × (lines.raw.held.octets ≡ []) × (lines.raw.held.passed ≡ 0) × (lines.raw.longest ≡ 140000) × IsReading lines.reader start × (lines.is_ended ≡ false)) }
     {
         Lines::read_by(alloc, source, LineReader::new(alloc)?)
     }
@@ -55,7 +55,7 @@ impl<'a, S: Source> Lines<'a, S> {
     /// The same, and control lines may stand among them.
     pub fn with_control(alloc: Global, source: &'a mut S) -> Result<Lines<'a, S>, NoMemory>
         ensures { IfOk result (λ lines. (lines.source.ghost_name ≡ source.entry.ghost_name) × (lines.source.now ≡ source.old)
-            × (lines.raw.held.octets ≡ []) × (lines.raw.held.passed ≡ 0) × IsReading lines.reader start_with_control
+            × (lines.raw.held.octets ≡ []) × (lines.raw.held.passed ≡ 0) × (lines.raw.longest ≡ 140000) × IsReading lines.reader start_with_control
             × (lines.is_ended ≡ false)) }
     {
         Lines::read_by(alloc, source, LineReader::with_control(alloc)?)
@@ -77,7 +77,8 @@ impl<'a, S: Source> Lines<'a, S> {
     /// again and takes nothing more.
     pub fn next_line(&mut self) -> Result<Option<Line>, LineFault>
         ensures same_source { self.new.source.ghost_name ≡ self.old.source.ghost_name }
-        ensures answers { (at : At) → IsReading self.old.reader at → self.old.is_ended ≡ false
+        ensures limit { self.new.raw.longest ≡ self.old.raw.longest }
+        ensures answers { (at : At) → IsReading self.old.reader at → self.old.is_ended ≡ false → self.old.raw.longest ≡ 140000
             → Answers result at (rest_of self.old.raw (S.left self.old.source.now)) (rest_of self.new.raw (S.left self.new.source.now))
             (S.left self.new.source.now) self.old.raw self.new.raw self.new.reader self.new.is_ended }
         ensures refused { IfErr result (λ fault. self.new.reader.refused ≡ Some fault) }
@@ -87,7 +88,7 @@ impl<'a, S: Source> Lines<'a, S> {
             → (result ≡ Ok None) × (self.new.source.now ≡ self.old.source.now) × (self.new.is_ended ≡ true) }
         ensures counts_ends { (at : At) → IsReading self.old.reader at → self.old.is_ended ≡ false
             → Counts (self.new.is_ended ≡ true) (S.ends self.old.source.now) (S.ends self.new.source.now) }
-        ensures counts_faults { (at : At) → IsReading self.old.reader at → self.old.is_ended ≡ false
+        ensures counts_faults { (at : At) → IsReading self.old.reader at → self.old.is_ended ≡ false → self.old.raw.longest ≡ 140000
             → Counts (result ≡ Err Read) (S.faults self.old.source.now) (S.faults self.new.source.now) }
     {
         if let Some(fault) = self.reader.refused() {

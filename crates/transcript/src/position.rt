@@ -19,15 +19,12 @@ use crate::link_stream::LinkStream;
 use crate::settings::{read_client, read_settings};
 use agent_events::Input;
 use std::alloc::Global;
-use text_lines::WordFault;
 use text_lines::words::words_of;
+use text_lines::{LONGEST_LINE, WordFault};
 use wire_core::NoMemory;
 
 /// How many client lines there are at most.
 const MOST_CLIENTS: usize = 1_024;
-
-/// How many octets a line has at most.
-const LONGEST_LINE: usize = 140_000;
 
 /// Which lines may stand next.
 #[derive(Clone, Copy)]

@@ -8,6 +8,14 @@ pub record Dials : Type 0 where
   pub faults : ℕ
   pub row : ℕ
 
+-- what a dialer tells, and how many links it made
+pub record DialCounts : Type 0 where
+  pub told : Dials
+  pub made : ℕ
+
+abbrev pub no_dials : DialCounts
+no_dials = record { told = record { faults = 0; row = 0 }; made = 0 }
+
 abbrev pub row_after : {A : Type 0} → Option A → ℕ → ℕ
 row_after None row = next_row row
 row_after (Some x) row = 0

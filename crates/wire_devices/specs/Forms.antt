@@ -194,16 +194,23 @@ empty_planned_script = record { script = empty_script; receives = []; sends = []
 abbrev pub made_of_planned : PlannedScript → PlannedStream × PlannedWall
 made_of_planned s = (planned_stream s.script.octets s.script.looks s.receives, planned_wall s.script.room s.sends)
 
+-- a dialer that never fails: what its coming links are made of, and how many it made
+pub record SteadyDials : Type 0 where
+  pub lines : List Script
+  pub made : ℕ
+
 -- a dialer of which some dials fail
 pub record PlannedDials : Type 0 where
   pub lines : List PlannedScript
   pub dials : Plan
   pub told : Dials
+  pub made : ℕ
 
 -- a crew of which some starts are refused
 pub record PlannedStarts : Type 0 where
   pub starts : Plan
   pub faults : ℕ
+  pub started : ℕ
 
 -- the adapter of a socket: it tells nothing of content
 abbrev pub told_of_counts : Dials → Socket

@@ -1,6 +1,7 @@
 //! A dialer that is dialled: it accepts one connection.
 
 ghost use Rattle.std.specs.Prelude.{◌≡◌, IfOk};
+ghost use Rattle.wire_devices.specs.Dialling.{no_dials};
 
 use crate::devices::Dialer;
 use crate::streams::{TcpIn, TcpOut, ends_of};
@@ -18,15 +19,16 @@ pub struct TcpAccepter<R> {
     listener: Option<TcpListener>,
     faults: u64,
     row: u8,
+    made: u64,
 }
 
 impl<R> Model for TcpAccepter<R> {
     ghost use Rattle.std.specs.Prelude.{◌≤◌};
-    ghost use Rattle.wire_devices.specs.Dialling.{Dials};
+    ghost use Rattle.wire_devices.specs.Dialling.{DialCounts};
 
-    ghost Value = { Dials };
+    ghost Value = { DialCounts };
 
-    ghost view = { λ d. record { faults = d.faults; row = d.row } };
+    ghost view = { λ d. record { told = record { faults = d.faults; row = d.row }; made = d.made } };
 
     ghost invariant = { λ d. d.row ≤ 16 };
 }
@@ -34,7 +36,7 @@ impl<R> Model for TcpAccepter<R> {
 impl<R: Net<Listener = TcpListener, Stream = TcpStream> + Copy> TcpAccepter<R> {
     /// A listener at this address and port, or why the system opens none. Port 0 is one that the system chooses.
     pub fn bind(rt: R, address: u32, port: u16) -> io::Result<TcpAccepter<R>>
-        ensures { IfOk result (λ accepter. accepter ≡ record { faults = 0; row = 0 }) }
+        ensures { IfOk result (λ accepter. accepter ≡ no_dials) }
     {
         let listener = TcpListener::bind(&rt, (Ipv4Addr::from(address), port))?;
         Ok(TcpAccepter::over(rt, Some(listener)))
@@ -44,19 +46,20 @@ impl<R: Net<Listener = TcpListener, Stream = TcpStream> + Copy> TcpAccepter<R> {
 impl<R> TcpAccepter<R> {
     /// A listener that isn't opened.
     pub fn closed(rt: R) -> TcpAccepter<R>
-        ensures { result ≡ record { faults = 0; row = 0 } }
+        ensures { result ≡ no_dials }
     {
         TcpAccepter::over(rt, None)
     }
 
     fn over(rt: R, listener: Option<TcpListener>) -> TcpAccepter<R>
-        ensures { result ≡ record { faults = 0; row = 0 } }
+        ensures { result ≡ no_dials }
     {
         TcpAccepter {
             rt,
             listener,
             faults: 0,
             row: 0,
+            made: 0,
         }
     }
 }
@@ -66,12 +69,15 @@ impl<R: Wait + rt::Clock + Copy> Dialer for TcpAccepter<R> {
 
     type Out = TcpOut<R>;
 
-    ghost told = { λ d. d };
+    ghost told = { λ d. d.told };
+
+    ghost made = { λ d. d.made };
 
     fn dial(&mut self) -> Option<(TcpIn, TcpOut<R>)> {
         match accept(self.rt, self.listener.take()) {
             Ok(ends) => {
                 self.row = 0;
+                self.made = self.made.saturating_add(1);
                 Some(ends)
             }
             Err(_) => {

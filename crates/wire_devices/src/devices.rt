@@ -1,6 +1,7 @@
 //! What the running server is given of the outside. A device tells its content where it is known, and may stop telling.
 
-ghost use Rattle.std.specs.Prelude.{◌≡◌, ℕ, List, [], ◌∷◌, Option, IfSome, IsNone};
+ghost use Rattle.std.specs.Prelude.{◌≡◌, ℕ, List, [], ◌∷◌, Option, IfSome, IsNone, IsSome};
+ghost use Rattle.wire_core.specs.Counts.{Counts};
 ghost use Rattle.wire_devices.specs.Telling.{Adds};
 ghost use Rattle.wire_devices.specs.Sockets.{Socket, datagram, Receives, Sends, Twinned, IsFreshSocket};
 ghost use Rattle.wire_devices.specs.Links.{Inlet, Outlet, Hears, Speaks, IsFreshInlet, IsFreshOutlet};
@@ -111,8 +112,12 @@ pub trait Dialer {
     /// What the dialer tells.
     ghost told: { Self → Dials };
 
+    /// How many links it made.
+    ghost made: { Self → ℕ };
+
     /// The two ends of a link that was just made. None counts as a fault.
     fn dial(&mut self) -> Option<(Self::In, Self::Out)>
         ensures fresh { IfSome result (λ ends. IsFreshInlet (Self.In.told ends.0) × IsFreshOutlet (Self.Out.told ends.1)) }
-        ensures dialled { Dialled result (told self.old) (told self.new) };
+        ensures dialled { Dialled result (told self.old) (told self.new) }
+        ensures counted { Counts (IsSome result) (made self.old) (made self.new) };
 }

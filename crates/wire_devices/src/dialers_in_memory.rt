@@ -1,6 +1,7 @@
 //! Dialers over memory.
 
-ghost use Rattle.std.specs.Prelude.{◌≡◌, Some, None, drop, slice_get, unwrap_or, vec_capacity, if◌then◌else◌, IfSome};
+ghost use Rattle.std.specs.Prelude.{◌≡◌, Some, None, drop, slice_get, unwrap_or, vec_capacity, if◌then◌else◌, IfSome, IsSome};
+ghost use Rattle.wire_core.specs.Counts.{Counts};
 ghost use Rattle.wire_devices.specs.Links.{IsFreshInlet, IsFreshOutlet};
 ghost use Rattle.wire_devices.specs.Dialling.{Dialled};
 ghost use Rattle.wire_devices.specs.Forms.{plan_of, is_due, next_call, made_of, made_of_planned, empty_script, empty_planned_script, told_of_stream, told_of_wall, told_of_planned_stream, told_of_planned_wall};
@@ -54,28 +55,32 @@ impl SteadyLine {
 pub struct SteadyDialer {
     alloc: Global,
     lines: VecDeque<SteadyLine>,
+    made: u64,
 }
 
 impl Model for SteadyDialer {
-    ghost use Rattle.std.specs.Prelude.{List};
-    ghost use Rattle.wire_devices.specs.Forms.{Script};
+    ghost use Rattle.wire_devices.specs.Forms.{SteadyDials};
 
-    ghost Value = { List Script };
+    ghost Value = { SteadyDials };
 
-    ghost view = { λ d. d.lines.items };
+    ghost view = { λ d. record { lines = d.lines.items; made = d.made } };
 }
 
 impl SteadyDialer {
     /// A dialer that makes these links in turn, and then such as end at once.
     pub fn new(alloc: Global, lines: VecDeque<SteadyLine>) -> SteadyDialer
-        ensures { result ≡ lines.items }
+        ensures { result ≡ record { lines = lines.items; made = 0 } }
     {
-        SteadyDialer { alloc, lines }
+        SteadyDialer {
+            alloc,
+            lines,
+            made: 0,
+        }
     }
 
     fn next_line(&mut self) -> SteadyLine
-        ensures line { result ≡ unwrap_or (slice_get self.old 0) empty_script }
-        ensures lines { self.new ≡ drop 1 self.old }
+        ensures line { result ≡ unwrap_or (slice_get self.old.lines 0) empty_script }
+        ensures lines { self.new ≡ record self.old { lines = drop 1 self.old.lines } }
     {
         match next_look(&mut self.lines) {
             Some(line) => line,
@@ -91,12 +96,16 @@ impl Dialer for SteadyDialer {
 
     ghost told = { λ _. record { faults = 0; row = 0 } };
 
+    ghost made = { λ d. d.made };
+
     fn dial(&mut self) -> Option<(SteadyLinkIn, SteadyLinkOut)>
-        ensures link { result ≡ Some (made_of (unwrap_or (slice_get self.old 0) empty_script)) }
-        ensures lines { self.new ≡ drop 1 self.old }
+        ensures link { result ≡ Some (made_of (unwrap_or (slice_get self.old.lines 0) empty_script)) }
+        ensures lines { self.new.lines ≡ drop 1 self.old.lines }
+        ensures counted { Counts (IsSome result) self.old.made self.new.made }
         ensures fresh { IfSome result (λ ends. IsFreshInlet (told_of_stream ends.0 0) × IsFreshOutlet (told_of_wall ends.1 0)) }
         ensures dialled { Dialled result (record { faults = 0; row = 0 }) (record { faults = 0; row = 0 }) }
     {
+        self.made = self.made.saturating_add(1);
         let line = self.next_line();
         let SteadyLine {
             octets,
@@ -150,6 +159,7 @@ pub struct MemoryDialer {
     dials: CallPlan,
     faults: u64,
     row: u8,
+    made: u64,
 }
 
 impl Model for MemoryDialer {
@@ -158,7 +168,7 @@ impl Model for MemoryDialer {
 
     ghost Value = { PlannedDials };
 
-    ghost view = { λ d. record { lines = d.lines.items; dials = d.dials; told = record { faults = d.faults; row = d.row } } };
+    ghost view = { λ d. record { lines = d.lines.items; dials = d.dials; told = record { faults = d.faults; row = d.row }; made = d.made } };
 
     ghost invariant = { λ d. d.row ≤ 16 };
 }
@@ -167,7 +177,7 @@ impl MemoryDialer {
     /// A dialer that makes these links in turn, and then such as end at once. The dials whose numbers are in `failing`,
     /// counted from 0, fail, and make none.
     pub fn new(alloc: Global, lines: VecDeque<Line>, failing: Vec<usize>) -> MemoryDialer
-        ensures { result ≡ record { lines = lines.items; dials = plan_of failing.items; told = record { faults = 0; row = 0 } } }
+        ensures { result ≡ record { lines = lines.items; dials = plan_of failing.items; told = record { faults = 0; row = 0 }; made = 0 } }
     {
         MemoryDialer {
             alloc,
@@ -175,6 +185,7 @@ impl MemoryDialer {
             dials: CallPlan::new(failing),
             faults: 0,
             row: 0,
+            made: 0,
         }
     }
 
@@ -196,12 +207,15 @@ impl Dialer for MemoryDialer {
 
     ghost told = { λ d. d.told };
 
+    ghost made = { λ d. d.made };
+
     fn dial(&mut self) -> Option<(MemoryLinkIn, MemoryLinkOut)>
         ensures link { result ≡ (if is_due self.old.dials then None else Some (made_of_planned (unwrap_or (slice_get self.old.lines 0) empty_planned_script))) }
         ensures lines { self.new.lines ≡ (if is_due self.old.dials then self.old.lines else drop 1 self.old.lines) }
         ensures plan { self.new.dials ≡ next_call self.old.dials }
         ensures fresh { IfSome result (λ ends. IsFreshInlet (told_of_planned_stream ends.0) × IsFreshOutlet (told_of_planned_wall ends.1)) }
         ensures dialled { Dialled result self.old.told self.new.told }
+        ensures counted { Counts (IsSome result) self.old.made self.new.made }
     {
         if self.dials.fails() {
             self.faults = self.faults.saturating_add(1);
@@ -209,6 +223,7 @@ impl Dialer for MemoryDialer {
             return None;
         }
         self.row = 0;
+        self.made = self.made.saturating_add(1);
         let line = self.next_line();
         let Line {
             line,

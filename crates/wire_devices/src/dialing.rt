@@ -1,6 +1,7 @@
 //! A dialer over std's stream.
 
 ghost use Rattle.std.specs.Prelude.{◌≡◌, IfOk};
+ghost use Rattle.wire_devices.specs.Dialling.{no_dials};
 
 use crate::devices::Dialer;
 use crate::streams::{TcpIn, TcpOut, ends_of};
@@ -33,15 +34,16 @@ pub struct TcpDialer<R> {
     refusal: Option<ErrorKind>,
     faults: u64,
     row: u8,
+    made: u64,
 }
 
 impl<R> Model for TcpDialer<R> {
     ghost use Rattle.std.specs.Prelude.{◌≤◌};
-    ghost use Rattle.wire_devices.specs.Dialling.{Dials};
+    ghost use Rattle.wire_devices.specs.Dialling.{DialCounts};
 
-    ghost Value = { Dials };
+    ghost Value = { DialCounts };
 
-    ghost view = { λ d. record { faults = d.faults; row = d.row } };
+    ghost view = { λ d. record { told = record { faults = d.faults; row = d.row }; made = d.made } };
 
     ghost invariant = { λ d. d.row ≤ 16 };
 }
@@ -49,7 +51,7 @@ impl<R> Model for TcpDialer<R> {
 impl<R> TcpDialer<R> {
     /// A dialer that has dialled nobody yet.
     pub fn new(rt: R, address: u32, port: u16) -> TcpDialer<R>
-        ensures { result ≡ record { faults = 0; row = 0 } }
+        ensures { result ≡ no_dials }
     {
         TcpDialer {
             rt,
@@ -60,6 +62,7 @@ impl<R> TcpDialer<R> {
             refusal: None,
             faults: 0,
             row: 0,
+            made: 0,
         }
     }
 
@@ -83,7 +86,9 @@ impl<R: Net<Listener = TcpListener, Stream = TcpStream> + Wait + rt::Clock + Cop
 
     type Out = TcpOut<R>;
 
-    ghost told = { λ d. d };
+    ghost told = { λ d. d.told };
+
+    ghost made = { λ d. d.made };
 
     fn dial(&mut self) -> Option<(TcpIn, TcpOut<R>)> {
         let waker = self.waker.as_ref().and_then(|waker| waker.another());
@@ -92,6 +97,7 @@ impl<R: Net<Listener = TcpListener, Stream = TcpStream> + Wait + rt::Clock + Cop
                 self.pause = SHORT_PAUSE;
                 self.refusal = None;
                 self.row = 0;
+                self.made = self.made.saturating_add(1);
                 Some(ends)
             }
             Err(error) => {

@@ -1,6 +1,6 @@
 //! Jobs, and the crews that run each in a thread of its own.
 
-ghost use Rattle.std.specs.Prelude.{◌≡◌, IfOk, IfErr, IsErr, MatchResult};
+ghost use Rattle.std.specs.Prelude.{◌≡◌, IfOk, IfErr, IsOk, IsErr, MatchResult};
 ghost use Rattle.wire_core.specs.Counts.{Counts, one_more};
 
 use std::alloc::Global;
@@ -31,6 +31,10 @@ pub trait Job: Send + Drop + 'static {
 #[derive(Clone, Copy)]
 pub struct RefusedStart(());
 
+/// Shows that a job was started, in the same way.
+#[derive(Clone, Copy)]
+pub struct MadeStart(());
+
 /// Runs jobs beside each other.
 pub trait Crew<J: Job> {
     ghost use Rattle.std.specs.Prelude.{ℕ};
@@ -40,6 +44,9 @@ pub trait Crew<J: Job> {
     /// How many starts were refused.
     ghost faults: { Self → ℕ };
 
+    /// How many jobs were started.
+    ghost started: { Self → ℕ };
+
     /// The runtime that starts the threads and that the jobs are given.
     fn runtime(&self) -> Self::Rt;
 
@@ -48,11 +55,18 @@ pub trait Crew<J: Job> {
 
     /// Whether a start may be made now. It is asked once a start.
     fn admits(&mut self) -> bool
-        ensures { faults self.new ≡ faults self.old };
+        ensures faults { faults self.new ≡ faults self.old }
+        ensures started { started self.new ≡ started self.old };
 
     /// Counts a start that was refused.
     fn count(&mut self, refused: RefusedStart)
-        ensures { faults self.new ≡ one_more (faults self.old) };
+        ensures faults { faults self.new ≡ one_more (faults self.old) }
+        ensures started { started self.new ≡ started self.old };
+
+    /// Counts a job that was started.
+    fn count_started(&mut self, made: MadeStart)
+        ensures faults { faults self.new ≡ faults self.old }
+        ensures started { started self.new ≡ one_more (started self.old) };
 
     /// Starts the job. A start that is refused hands it back, not run.
     final fn start(&mut self, job: J) -> Result<ThreadHelper<J>, J>
@@ -60,13 +74,17 @@ pub trait Crew<J: Job> {
         ensures ok { IfOk result (λ helper. helper ≡ job) }
         ensures err { IfErr result (λ back. back ≡ job) }
         ensures counts_faults { Counts (IsErr result) (faults self.old) (faults self.new) }
+        ensures counts_started { Counts (IsOk result) (started self.old) (started self.new) }
     {
         if !self.admits() {
             self.count(RefusedStart(()));
             return Err(job);
         }
         match begin(self.runtime(), self.alloc(), job) {
-            Ok(helper) => Ok(helper),
+            Ok(helper) => {
+                self.count_started(MadeStart(()));
+                Ok(helper)
+            }
             Err(job) => {
                 self.count(RefusedStart(()));
                 Err(job)
@@ -78,6 +96,7 @@ pub trait Crew<J: Job> {
     final fn finish(&mut self, helper: ThreadHelper<J>) -> J::Done
         ensures gives { J.gives helper result }
         ensures faults { faults self.new ≡ faults self.old }
+        ensures started { started self.new ≡ started self.old }
     {
         end(&self.runtime(), helper)
     }

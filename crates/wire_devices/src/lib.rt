@@ -21,7 +21,7 @@ pub use crew::ThreadCrew;
 pub use devices::{Clock, Datagram, Datagrams, Dialer, LinkGot, LinkIn, LinkOut, Took};
 pub use dialers_in_memory::{Line, MemoryDialer, SteadyDialer, SteadyLine};
 pub use dialing::TcpDialer;
-pub use jobs::{Crew, Job, RefusedStart, ThreadHelper};
+pub use jobs::{Crew, Job, MadeStart, RefusedStart, ThreadHelper};
 pub use links_in_memory::{MemoryLinkIn, MemoryLinkOut, SteadyLinkIn, SteadyLinkOut};
 pub use sockets_in_memory::{MemoryDatagrams, SteadyDatagrams};
 pub use streams::{TcpIn, TcpOut};

@@ -22,12 +22,13 @@ const UNTIL: u64 = 100;
 /// So often the clock reads 0 before.
 const READINGS: usize = 64;
 
-/// What fails of a run: so many dials at first, so many receives of each socket at first, the first twin of the socket for
-/// accounting, and the start of the worker with this number.
+/// What fails of a run: so many dials at first, all dials after the first, so many receives of each socket at first, the
+/// first twin of the socket for accounting, and the start of the worker with this number.
 #[derive(Clone, Copy)]
 enum Fault {
     Nothing,
     Dials(usize),
+    Redials,
     Auth(usize),
     Acct(usize),
     AcctTwin,
@@ -52,6 +53,14 @@ fn fail_first(calls: &mut Vec<usize>, count: usize) -> Result<(), AllocError> {
     Ok(())
 }
 
+/// The first call goes well, and the 16 after it fail.
+fn fail_redials(calls: &mut Vec<usize>) -> Result<(), AllocError> {
+    for call in 1..17 {
+        calls.push(call)?;
+    }
+    Ok(())
+}
+
 fn plans(alloc: Global, fault: Fault) -> Result<CallPlans, AllocError> {
     let mut plans = CallPlans {
         dials: Vec::new(alloc),
@@ -63,6 +72,7 @@ fn plans(alloc: Global, fault: Fault) -> Result<CallPlans, AllocError> {
     let filled = match fault {
         Fault::Nothing => Ok(()),
         Fault::Dials(count) => fail_first(&mut plans.dials, count),
+        Fault::Redials => fail_redials(&mut plans.dials),
         Fault::Auth(count) => fail_first(&mut plans.auth, count),
         Fault::Acct(count) => fail_first(&mut plans.acct, count),
         Fault::AcctTwin => fail_first(&mut plans.acct_twins, 1),
@@ -79,8 +89,10 @@ fn plans(alloc: Global, fault: Fault) -> Result<CallPlans, AllocError> {
 fn wanted(fault: Fault) -> (Status, Option<usize>) {
     match fault {
         Fault::Dials(16) => (Status::LinkFault, None),
+        Fault::Redials => (Status::LinkFault, Some(1)),
         Fault::Acct(16) => (Status::DatagramFault, Some(1)),
         Fault::AcctTwin => (Status::DatagramFault, None),
+        Fault::Start(3) => (Status::NoThread, Some(2)),
         Fault::Start(_) => (Status::NoThread, None),
         _ => (Status::Done, Some(1)),
     }
@@ -189,6 +201,18 @@ fn what_fails_says_how_a_run_ends(rt: HostRuntime) -> Result<(), Fail> {
         Fault::Start(2),
     ] {
         assert!(rt; ends(rt, alloc, random, &capable, READINGS, fault)? == wanted(fault));
+    }
+    Ok(())
+}
+
+/// The clock stands still, and the first link ends at once, while the readers of the sockets run.
+#[test]
+fn what_fails_after_the_first_link(rt: HostRuntime) -> Result<(), Fail> {
+    let alloc = rt.alloc();
+    let random = RandomState::new(&rt)?;
+    let capable = base(alloc, &CAPABLE, 0)?;
+    for fault in [Fault::Redials, Fault::Start(3)] {
+        assert!(rt; ends(rt, alloc, random, &capable, 0, fault)? == wanted(fault));
     }
     Ok(())
 }

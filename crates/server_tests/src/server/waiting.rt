@@ -1,6 +1,7 @@
 //! Devices that wait for one another, so that what a run comes to is the same in whatever order its threads go.
 
 ghost use Rattle.std.specs.Prelude.{◌≡◌, ◌≤◌, length, None};
+ghost use Rattle.wire_devices.specs.Dialling.{no_dials};
 ghost use Rattle.wire_devices.specs.Forms.{told_of_counts, told_of_ends};
 ghost use Rattle.wire_devices.specs.Sockets.{Fits};
 ghost use Rattle.wire_devices.specs.Links.{Within};
@@ -442,22 +443,23 @@ pub(super) struct WaitingDialer {
     scripts: VecDeque<Script>,
     faults: u64,
     row: u8,
+    made: u64,
 }
 
 impl Model for WaitingDialer {
     ghost use Rattle.std.specs.Prelude.{◌≤◌};
-    ghost use Rattle.wire_devices.specs.Dialling.{Dials};
+    ghost use Rattle.wire_devices.specs.Dialling.{DialCounts};
 
-    ghost Value = { Dials };
+    ghost Value = { DialCounts };
 
-    ghost view = { λ d. record { faults = d.faults; row = d.row } };
+    ghost view = { λ d. record { told = record { faults = d.faults; row = d.row }; made = d.made } };
 
     ghost invariant = { λ d. d.row ≤ 16 };
 }
 
 impl WaitingDialer {
     pub(super) fn new(rt: HostRuntime, word: Word, scripts: VecDeque<Script>) -> WaitingDialer
-        ensures { result ≡ record { faults = 0; row = 0 } }
+        ensures { result ≡ no_dials }
     {
         WaitingDialer {
             rt,
@@ -465,6 +467,7 @@ impl WaitingDialer {
             scripts,
             faults: 0,
             row: 0,
+            made: 0,
         }
     }
 
@@ -481,7 +484,9 @@ impl Dialer for WaitingDialer {
 
     type Out = WaitingOut;
 
-    ghost told = { λ d. d };
+    ghost told = { λ d. d.told };
+
+    ghost made = { λ d. d.made };
 
     fn dial(&mut self) -> Option<(WaitingIn, WaitingOut)> {
         let Some((heard, said)) = self.words() else {
@@ -490,6 +495,7 @@ impl Dialer for WaitingDialer {
             return None;
         };
         self.row = 0;
+        self.made = self.made.saturating_add(1);
         let alloc = self.rt.alloc();
         let script = self.scripts.pop_front().unwrap_or(Script::quiet(alloc));
         let link_in = WaitingIn {

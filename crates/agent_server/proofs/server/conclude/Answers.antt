@@ -22,3 +22,6 @@ returns-clause-served g c = λ base first then last starts now auth_socket acct_
       links = c.from_vec.ensures;
       status_is = c.status_of.ensures ∙ ap (λ n. status_given c.args.end (c.args.auth.failed || c.args.acct.failed) c.into_end-clock.result.closed n) (c.len.ensures ∙ c.args.past.pairs.ok.0);
     })
+
+pub returns-clause-links : goal.returns-clause-links
+returns-clause-links g c = c.from_vec.ensures

@@ -1,4 +1,6 @@
 use Rattle.std.proofs.Common.{length, ap, arith, ◌∙◌}
+use Rattle.turnstile.specs.Passes.{known}
+use Rattle.agent_server.proofs.StartingLemmas.{carries-same, read-began}
 use Rattle.agent_server.proofs.server.disband.Goals as goal
 
 pub rejoin_socket-auth-requires-clause-theirs : goal.rejoin_socket-auth-requires-clause-theirs
@@ -17,3 +19,9 @@ pub clock_of-requires-clause-all : goal.clock_of-requires-clause-all
 clock_of-requires-clause-all g c =
     let one = ap length (c.enter.ensures.went.numbers ∙ c.requires.own.1) in
     omega (arith, one, c.rejoin_link.ensures.one_more, c.rejoin_socket-auth.ensures.one_more, c.rejoin_socket-acct.ensures.one_more)
+
+pub returns-clause-began : goal.returns-clause-began
+returns-clause-began g c = λ base carries.
+    read-began g.C.Clock.readings c.clock_of.result base (known c.rejoin_link.new.pass).seen
+    (c.clock_of.ensures base (carries-same g.C.Clock.readings (known c.args.pass) (known c.rejoin_link.new.pass) base
+    (c.rejoin_link.ensures.first ∙ c.rejoin_socket-acct.ensures.first ∙ c.rejoin_socket-auth.ensures.first ∙ c.enter.ensures.went.first) carries))

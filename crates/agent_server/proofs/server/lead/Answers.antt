@@ -1,8 +1,8 @@
-use Rattle.std.proofs.Common.{Ok, ◌∙◌}
+use Rattle.std.proofs.Common.{Ok, ◌∙◌, length, arith}
 use Rattle.std.specs.Arc.{arc_value}
 use Rattle.turnstile.specs.Passes.{known}
 use Rattle.agent_server.proofs.BackLemmas.{back-at, reader-worker}
-use Rattle.agent_server.proofs.ConcludingLemmas.{all-done}
+use Rattle.agent_server.proofs.ConcludingLemmas.{all-done, kept-links}
 use Rattle.agent_server.proofs.server.lead.Goals as goal
 
 pub socket_ran-auth-requires-clause-worker : goal.socket_ran-auth-requires-clause-worker
@@ -23,5 +23,12 @@ pub returns-clause-served : goal.returns-clause-served
 returns-clause-served g c = λ base dials auth acct carries dialled grows auth_starts acct_starts.
     c.conclude.ensures.served base dials _ _ _ _ auth acct (known c.args.pass)
     (all-done g.D.Datagrams.told g.C.Clock.readings g.L.In.LinkIn.told g.L.Out.LinkOut.told base dials _ _ _ _ _ auth acct _ _ _ _ _ c.args.team.auth c.args.team.acct _ _
-    carries dialled grows c.serve_links-end.ensures.ends (c.socket_ran-acct.ensures.faults ∙ c.socket_ran-auth.ensures.faults) auth_starts acct_starts
+    carries dialled grows c.serve_links-end.ensures.ends c.serve_links-end.ensures.stops (c.socket_ran-acct.ensures.faults ∙ c.socket_ran-auth.ensures.faults) auth_starts acct_starts
     c.socket_ran-auth.ensures.back c.socket_ran-acct.ensures.back)
+
+pub returns-clause-kept : goal.returns-clause-kept
+returns-clause-kept g c =
+    kept-links c.conclude.result.trail c.serve_links-end.new.past.pairs.items (length c.args.past.pairs.items) _ _ c.conclude.ensures.links c.serve_links-end.ensures.kept
+
+pub returns-clause-started : goal.returns-clause-started
+returns-clause-started g c = omega (arith, c.serve_links-end.ensures.started, c.socket_ran-auth.ensures.started, c.socket_ran-acct.ensures.started)

@@ -1,8 +1,9 @@
-use Rattle.std.proofs.Common.{◌∙◌}
+use Rattle.std.proofs.Common.{◌∙◌, length}
 use Rattle.std.specs.Arc.{arc_value}
 use Rattle.radius_packet.specs.declared.reasons.Via.TheVariants.{Auth, Acct}
 use Rattle.turnstile.specs.Passes.{known}
-use Rattle.agent_server.proofs.StartingLemmas.{carries-same, ends-early, link-started, reader-at, reader-starts, rose-same, served-from}
+use Rattle.agent_server.proofs.ConcludingLemmas.{links-all}
+use Rattle.agent_server.proofs.StartingLemmas.{carries-same, ends-early, link-started, has-trail, if-none, read-began, reader-at, reader-starts, rose-same, served-from}
 use Rattle.agent_server.proofs.server.run.Goals as goal
 
 pub returns-in-Err-clause-early : goal.returns-in-Err-clause-early
@@ -62,3 +63,24 @@ returns-in-Ok-start_workers-clause-served g c = λ base carries.
     opened.grows
     (reader-starts told turnstile Auth 1 k l team.auth c.first_link.new.auth (told c.args.auth) started.ok.0 started.same.0 opened.alone.0 alike.0 c.requires.rows.0)
     (reader-starts told turnstile Acct 2 k l team.acct c.first_link.new.acct (told c.args.acct) started.ok.1 started.same.0 opened.alone.1 alike.1 c.requires.rows.1))
+
+pub returns-in-Err-clause-began : goal.returns-in-Err-clause-began
+returns-in-Err-clause-began g c = λ base carries.
+    read-began g.C.Clock.readings c.clock_of.result base (known c.first_link.new.pass).seen
+    (c.clock_of.ensures base (carries-same g.C.Clock.readings (known c.args.stand.pass) (known c.first_link.new.pass) base c.first_link.ensures.same.0 carries))
+
+pub returns-in-Ok-start_workers-clause-links : goal.returns-in-Ok-start_workers-clause-links
+returns-in-Ok-start_workers-clause-links g c =
+    links-all c.lead.result.trail c.args.stand.past.pairs.items (g.L.Dialer.made c.args.dialer.now) (g.L.Dialer.made c.first_link.new.dialer) (g.L.Dialer.made c.lead.new.dialer)
+    c.requires.ready.pairs c.in-Ok.ensures.made c.lead.ensures.kept
+
+pub returns-in-Ok-start_workers-clause-trail : goal.returns-in-Ok-start_workers-clause-trail
+returns-in-Ok-start_workers-clause-trail g c =
+    has-trail c.lead.result.trail (g.W.Crew.started c.args.crew.now) (g.W.Crew.started c.start_workers.new.crew) (g.W.Crew.started c.lead.new.crew) c.lead.ensures.some
+    c.in-Ok-start_workers.ensures.all_started c.lead.ensures.started
+
+pub returns-clause-began : goal.returns-clause-began
+returns-clause-began g c = λ base carries.
+    if-none c.disband.result.trail _
+    (c.disband.ensures.began base (carries-same g.C.Clock.readings (known c.args.stand.pass) (known c.start_workers.new.pass) base
+    (c.in-Err-start_workers.ensures.same.1 ∙ c.first_link.ensures.same.0) carries))

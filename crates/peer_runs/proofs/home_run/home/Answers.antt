@@ -1,4 +1,4 @@
-use Rattle.std.proofs.Common.{refl, inr}
+use Rattle.std.proofs.Common.{refl, inl, inr}
 use Rattle.peer_runs.proofs.EndingLemmas.{reading-complete, runs-timed}
 use Rattle.peer_runs.proofs.home_run.home.Goals as goal
 
@@ -14,6 +14,22 @@ pub returns-clause-ends : goal.returns-clause-ends
 returns-clause-ends g c = λ X told. (
   c.in-Ok.home,
   c.in-Ok.ensures.reads X told,
+  record { row = c.in-Some.ensures.dialled.row; faults = c.in-Some.ensures.dialled.faults },
+  runs-timed c.answer_link-status.result c.in-Ok.home (g.L.In.LinkIn.told c.answer_link-status.new.link.0) (g.L.Out.LinkOut.told c.answer_link-status.new.link.1)
+      (g.K.Sink.written c.args.output.now) (g.K.Sink.written c.answer_link-status.new.output) c.now.result c.args.millis c.saturating_add-until.result
+      (g.C.Clock.readings c.args.clock.now) (g.C.Clock.readings c.now.new.self) (g.C.Clock.readings c.answer_link-status.new.clock)
+      c.now.ensures c.saturating_add-until.ensures c.answer_link-status.ensures.runs,
+)
+
+pub returns-in-Err-clause-causes : goal.returns-in-Err-clause-causes
+returns-in-Err-clause-causes g c = (refl, inl c.in-Err.ensures.fails)
+
+pub returns-in_default-clause-causes : goal.returns-in_default-clause-causes
+returns-in_default-clause-causes g c = (refl, inr (c.in_default.ensures.dialled, refl))
+
+pub returns-clause-causes : goal.returns-clause-causes
+returns-clause-causes g c = (
+  c.in-Ok.home,
   record { row = c.in-Some.ensures.dialled.row; faults = c.in-Some.ensures.dialled.faults },
   runs-timed c.answer_link-status.result c.in-Ok.home (g.L.In.LinkIn.told c.answer_link-status.new.link.0) (g.L.Out.LinkOut.told c.answer_link-status.new.link.1)
       (g.K.Sink.written c.args.output.now) (g.K.Sink.written c.answer_link-status.new.output) c.now.result c.args.millis c.saturating_add-until.result

@@ -9,7 +9,7 @@ returns-in_default-clause-ends g c = ends-none _ _ _ _ _ _
 
 pub loop-next-init : goal.loop-next-init
 loop-next-init g c = record {
-  runs = runs-first c.args.place c.args.patience c.in-Ok.lines _ _ _ _ c.in-Ok.ensures.0 c.in-Ok.ensures.1;
+  runs = runs-first c.args.place c.args.patience c.in-Ok.lines _ _ _ _ c.in-Ok.ensures.0 c.in-Ok.ensures.1 c.in-Ok.ensures.2;
   row = sym c.requires;
   few = omega arith;
   ends = search rules;
@@ -56,7 +56,7 @@ loop-next-preserved g c =
     let line = c.in-Ok-next_line.ensures in
     let asked = c.in_default-ask_line.ensures in
     record {
-      runs = runs-line so_far.runs c.ask_line.new.counts.lines c.next_line.new.self _ _ _ _ (rw more at line.line) line.unended (rw c.line.ensures at asked.line) asked.lines;
+      runs = runs-line so_far.runs c.ask_line.new.counts.lines c.next_line.new.self _ _ _ _ (rw more at line.line) line.unended line.limit (rw c.line.ensures at asked.line) asked.lines;
       row = asked.row;
       few = let few : c.ask_line.new.counts.failures ≡ 16 → ⊥ = λ e. cc (asked.many.1 e) in omega (arith, asked.most, few);
       ends = line.counts_ends.stays (λ x. subst (λ n. SourceEnded (Ok n)) more x) ∙ so_far.ends;

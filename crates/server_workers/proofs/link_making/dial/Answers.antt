@@ -5,7 +5,11 @@ use Rattle.server_workers.proofs.DialLemmas.{dialling-finished, dialling-none, d
 use Rattle.server_workers.proofs.link_making.dial.Goals as goal
 
 pub loop-row-init : goal.loop-row-init
-loop-row-init g c = record { table = refl; so_far = dialling-none (known c.args.pass.now) (g.L.Dialer.told c.args.dialer.now) c.requires.row }
+loop-row-init g c = record {
+  table = refl;
+  so_far = dialling-none (known c.args.pass.now) (g.L.Dialer.told c.args.dialer.now) c.requires.row;
+  made = refl;
+}
 
 pub returns-then-row-lt-MOST_DIALS-clause-dialled : goal.returns-then-row-lt-MOST_DIALS-clause-dialled
 returns-then-row-lt-MOST_DIALS-clause-dialled g c =
@@ -19,4 +23,8 @@ loop-row-preserved g c =
     record {
       table = c.tick.ensures.table ∙ c.loop-row.invariant.table;
       so_far = dialling-on _ _ _ _ _ _ c.loop-row.row _ turn c.loop-row-test.true c.loop-row.invariant.so_far c.in_default.ensures.dialled went took;
+      made = c.in_default.ensures.counted.stays (λ some. cc) ∙ c.loop-row.invariant.made;
     }
+
+pub returns-then-row-lt-MOST_DIALS-clause-made : goal.returns-then-row-lt-MOST_DIALS-clause-made
+returns-then-row-lt-MOST_DIALS-clause-made g c = c.in_default.ensures.counted.stays (λ some. cc) ∙ c.loop-row.invariant.made

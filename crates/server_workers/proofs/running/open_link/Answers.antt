@@ -1,6 +1,7 @@
-use Rattle.std.proofs.Common.{refl}
+use Rattle.std.proofs.Common.{◌∙◌, ap, length, refl, arith}
 use Rattle.std.specs.Arc.{arc_value}
 use Rattle.turnstile.specs.Passes.{known}
+use Rattle.server_workers.proofs.LinkOverLemmas.{length-push}
 use Rattle.server_workers.proofs.NextLinkLemmas.{ends-unopened, goes-after, opened-by, ticked-up}
 use Rattle.server_workers.proofs.running.open_link.Goals as goal
 
@@ -23,3 +24,10 @@ returns-clause-next g c = λ dials low.
     (known c.enter.new.pass) (known c.start_reader.new.pass) c.start_reader.new.past c.in-Some.ensures.went.first
     (ticked-up (known c.args.pass.now) (known c.enter.new.pass) c.in-Some.field-0 dials.faults c.requires.rests.numbers c.in-Some.ensures.went)
     (c.start_reader.ensures.next dials low)
+
+pub returns-in_default-clause-stops : goal.returns-in_default-clause-stops
+returns-in_default-clause-stops g c =
+    rw c.give_up.ensures.next (record { threads = λ more. absurd (omega (arith, more)); dials = λ full. absurd (omega (arith, full)) })
+
+pub returns-in_default-clause-kept : goal.returns-in_default-clause-kept
+returns-in_default-clause-kept g c = rw c.give_up.ensures.next (ap length c.push_reserved.ensures.items ∙ length-push c.args.past.now.pairs.items _)

@@ -1,6 +1,7 @@
+use Rattle.std.proofs.Common.{◌∙◌, ap, length}
 use Rattle.std.specs.Arc.{arc_value}
 use Rattle.turnstile.specs.Passes.{known}
-use Rattle.server_workers.proofs.LinkOverLemmas.{link-over}
+use Rattle.server_workers.proofs.LinkOverLemmas.{length-push, link-over}
 use Rattle.server_workers.proofs.running.serve_link.Goals as goal
 
 pub returns-clause-over : goal.returns-clause-over
@@ -9,3 +10,6 @@ returns-clause-over g c =
     (known c.put_past-twins.new.pass) c.args.live.helper c.args.live.link_out c.let_go.new.link_out c.args.past.now c.put_past-twins.new.past c.reader_back-back.result
     c.put_past-twins.result c.requires.started (rw (← c.let_go.ensures) at c.write_link-end.ensures.wrote) c.reader_back-back.ensures.back c.put_past-twins.ensures.joined c.put_past-twins.ensures.twins
     c.put_past-twins.ensures.pairs c.put_past-twins.ensures.room c.put_past-twins.ensures.lost c.put_past-twins.ensures.again
+
+pub returns-clause-kept : goal.returns-clause-kept
+returns-clause-kept g c = ap length c.put_past-twins.ensures.pairs ∙ length-push c.args.past.now.pairs.items _

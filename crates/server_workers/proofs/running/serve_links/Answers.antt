@@ -1,10 +1,10 @@
-use Rattle.std.proofs.Common.{◌∙◌, refl, subst}
+use Rattle.std.proofs.Common.{◌∙◌, length, refl, subst, arith}
 use Rattle.std.specs.Arc.{arc_value}
 use Rattle.turnstile.specs.Passes.{known}
 use Rattle.turnstile.specs.Turns.{of}
 use Rattle.server_workers.specs.declared.running.Next.TheVariants as next
-use Rattle.server_workers.specs.Running.{ComesNext}
-use Rattle.server_workers.proofs.NextLinkLemmas.{goes-after, ticked-on, ticked-still}
+use Rattle.server_workers.specs.Running.{ComesNext, StopsFor}
+use Rattle.server_workers.proofs.NextLinkLemmas.{goes-after, keeps-on, keeps-one, keeps-same, ticked-on, ticked-still}
 use Rattle.server_workers.proofs.running.serve_links.Goals as goal
 
 pub loop-init : goal.loop-init
@@ -15,6 +15,8 @@ loop-init g c = record {
   first = refl;
   ticked = ticked-still (of 0 (known c.args.pass.now).seen) (g.L.Dialer.told c.args.dialer.now).faults;
   unrefused = refl;
+  begun = omega arith;
+  kept = keeps-same (length c.args.past.now.pairs.items) (g.L.Dialer.made c.args.dialer.now) (g.L.Dialer.made c.args.dialer.now) refl;
 }
 
 pub serve_one-requires-clause-table : goal.serve_one-requires-clause-table
@@ -31,6 +33,8 @@ loop-preserved g c =
       ticked = ticked-on (of 0 (known c.args.pass.now).seen) (of 0 (known c.loop.pass).seen) (of 0 (known c.serve_one.new.pass).seen) (g.L.Dialer.told c.args.dialer.now).faults
           (g.L.Dialer.told c.loop.dialer).faults (g.L.Dialer.told c.serve_one.new.dialer).faults c.loop.invariant.ticked goes.ticked;
       unrefused = goes.unrefused ∙ c.loop.invariant.unrefused;
+      begun = omega (arith, c.loop.invariant.begun, c.serve_one.ensures.started);
+      kept = keeps-one _ _ (length c.serve_one.new.past.pairs.items) _ _ (g.L.Dialer.made c.serve_one.new.dialer) c.loop.invariant.kept c.in-Go.ensures.kept;
     }
 
 pub returns-in-Stop-clause-ends : goal.returns-in-Stop-clause-ends
@@ -46,3 +50,15 @@ returns-in-Stop-clause-ends g c =
     starts (known c.args.pass.now) before now c.serve_one.new.past c.loop.invariant.first c.loop.invariant.ticked
     (subst (λ n. ComesNext g.L.In.LinkIn.told g.L.Out.LinkOut.told told stop (arc_value c.args.turnstile.now) dials later n starts before now c.serve_one.new.past)
     c.loop.invariant.unrefused c.in-Stop.ensures.next)
+
+pub returns-in-Stop-clause-stops : goal.returns-in-Stop-clause-stops
+returns-in-Stop-clause-stops g c =
+    subst (λ n. StopsFor c.in-Stop.end (g.L.Dialer.told c.serve_one.new.dialer).row n (g.W.Crew.faults c.serve_one.new.crew)) c.loop.invariant.unrefused c.in-Stop.ensures.stops
+
+pub returns-in-Stop-clause-started : goal.returns-in-Stop-clause-started
+returns-in-Stop-clause-started g c = omega (arith, c.loop.invariant.begun, c.serve_one.ensures.started)
+
+pub returns-in-Stop-clause-kept : goal.returns-in-Stop-clause-kept
+returns-in-Stop-clause-kept g c =
+    keeps-on (length c.args.past.now.pairs.items) (length c.loop.past.pairs.items) (length c.serve_one.new.past.pairs.items) (g.L.Dialer.made c.args.dialer.now)
+    (g.L.Dialer.made c.loop.dialer) (g.L.Dialer.made c.serve_one.new.dialer) c.loop.invariant.kept c.in-Stop.ensures.kept

@@ -1,11 +1,11 @@
-use Rattle.std.proofs.Common.{◌≡◌}
+use Rattle.std.proofs.Common.{◌≡◌, ◌≤◌, length}
 use Rattle.std.specs.Arc.{arc_value}
 use Rattle.turnstile.specs.Passes.{known, table_of}
 use Rattle.turnstile.specs.Turns.{of}
-use Rattle.server_workers.specs.Running.{StartedAs, Ticked}
+use Rattle.server_workers.specs.Running.{Keeps, StartedAs, Ticked}
 use Rattle.server_workers.proofs.running.serve_links.Given as goal
 
--- a link is open, its reader runs, and no start was refused so far
+-- a link is open, its reader runs, no start was refused so far, and each link before is over
 abbrev pub invariant-loop : goal.invariant-loop
 invariant-loop g l = record {
   table : table_of l.pass ≡ table_of l.initial.pass;
@@ -14,4 +14,6 @@ invariant-loop g l = record {
   first : (known l.pass).first ≡ (known l.initial.pass).first;
   ticked : Ticked (of 0 (known l.initial.pass).seen) (of 0 (known l.pass).seen) (g.L.Dialer.told l.initial.dialer).faults (g.L.Dialer.told l.dialer).faults;
   unrefused : g.W.Crew.faults l.crew ≡ g.W.Crew.faults l.initial.crew;
+  kept : Keeps (length l.initial.past.pairs.items) (length l.past.pairs.items) (g.L.Dialer.made l.initial.dialer) (g.L.Dialer.made l.dialer);
+  begun : g.W.Crew.started l.initial.crew ≤ g.W.Crew.started l.crew;
 }

@@ -1,10 +1,10 @@
-use Rattle.std.proofs.Common.{◌∙◌, subst, sym}
+use Rattle.std.proofs.Common.{◌∙◌, ◌+◌, length, refl, subst, sym, arith}
 use Rattle.std.specs.Arc.{arc_value}
 use Rattle.wire_core.specs.Counts.{Rose}
 use Rattle.turnstile.specs.Passes.{known}
 use Rattle.turnstile.specs.Turns.{of}
-use Rattle.server_workers.specs.Running.{ComesNext}
-use Rattle.server_workers.proofs.NextLinkLemmas.{goes-after, over-ends, over-rests, ticked-none}
+use Rattle.server_workers.specs.Running.{ComesNext, Keeps, KeepsAll, StopsAs}
+use Rattle.server_workers.proofs.NextLinkLemmas.{goes-after, keeps-same, over-ends, over-rests, ticked-none}
 use Rattle.server_workers.proofs.running.serve_one.Goals as goal
 
 pub returns-in-Some-clause-next : goal.returns-in-Some-clause-next
@@ -34,3 +34,23 @@ returns-in-None-clause-next g c =
     (g.W.Crew.faults c.next_link.new.crew) before then now c.next_link.new.past over.first (ticked-none (of 0 before.seen) (of 0 then.seen) dials.faults over.ticked)
     (subst (λ n. ComesNext g.L.In.LinkIn.told g.L.Out.LinkOut.told told c.next_link.result (arc_value c.args.turnstile.now) dials later n (g.W.Crew.faults c.next_link.new.crew) then now
     c.next_link.new.past) c.serve_link-end.ensures.faults c.next_link.ensures.next)
+
+pub returns-in-Some-clause-stops : goal.returns-in-Some-clause-stops
+returns-in-Some-clause-stops g c = record {
+  threads = λ more. absurd (omega (arith, more, c.serve_link-end.ensures.faults));
+  dials = λ full. absurd (omega (arith, full, c.requires.row));
+}
+
+pub returns-in-None-clause-stops : goal.returns-in-None-clause-stops
+returns-in-None-clause-stops g c =
+    subst (λ n. StopsAs c.next_link.result (g.L.Dialer.told c.next_link.new.dialer).row n (g.W.Crew.faults c.next_link.new.crew)) c.serve_link-end.ensures.faults c.next_link.ensures.stops
+
+pub returns-in-Some-clause-kept : goal.returns-in-Some-clause-kept
+returns-in-Some-clause-kept g c =
+    subst (λ n. Keeps (length c.args.past.now.pairs.items + 1) n (g.L.Dialer.made c.args.dialer.now) (g.L.Dialer.made c.args.dialer.now)) (sym c.serve_link-end.ensures.kept)
+    (keeps-same (length c.args.past.now.pairs.items + 1) (g.L.Dialer.made c.args.dialer.now) (g.L.Dialer.made c.args.dialer.now) refl)
+
+pub returns-in-None-clause-kept : goal.returns-in-None-clause-kept
+returns-in-None-clause-kept g c =
+    subst (λ n. KeepsAll c.next_link.result n (length c.next_link.new.past.pairs.items) (g.L.Dialer.made c.args.dialer.now) (g.L.Dialer.made c.next_link.new.dialer))
+    c.serve_link-end.ensures.kept c.next_link.ensures.kept

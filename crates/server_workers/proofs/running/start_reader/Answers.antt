@@ -1,8 +1,9 @@
-use Rattle.std.proofs.Common.{◌≡◌, ◌++◌, ◌∷◌, [], rules, refl, sym, ap, subst, ◌∙◌, arith}
+use Rattle.std.proofs.Common.{◌≡◌, ◌++◌, ◌∷◌, [], length, rules, refl, sym, ap, subst, ◌∙◌, arith}
 use Rattle.std.specs.Arc.{arc_value}
 use Rattle.turnstile.specs.Passes.{known, table_of}
 use Rattle.server_workers.specs.declared.running.RunEnd.TheVariants as run
 use Rattle.server_workers.specs.Running.{IsLinkWorker, ReaderNeverRan, StartedAs}
+use Rattle.server_workers.proofs.LinkOverLemmas.{length-push}
 use Rattle.server_workers.proofs.NextLinkLemmas.{ends-unstarted, same-again, same-still, started-now, ticked-split}
 use Rattle.server_workers.proofs.running.start_reader.Goals as goal
 
@@ -13,7 +14,7 @@ returns-in_default-clause-next g c = λ dials low.
     rw c.give_up.ensures.next
     (ends-unstarted g.I.LinkIn.told g.O.LinkOut.told g.D.Datagrams.told run.NoMemory dials _ (known c.args.pass.now) (known c.args.pass.now) (known c.give_up.new.pass) c.args.twins
     c.args.twins c.args.past.now _ c.args.pair left low s (same-still (known c.args.pass.now) s.numbers) went refl
-    c.push_reserved.ensures.items c.push_reserved.ensures.capacity refl refl c.requires.fresh.0 c.requires.fresh.1 (λ segs seen. tt) tt)
+    c.push_reserved.ensures.items c.push_reserved.ensures.capacity refl refl c.requires.fresh.0 c.requires.fresh.1 (λ segs seen. tt) tt (λ segs all. all))
 
 pub reader_unstarted-back-requires : goal.reader_unstarted-back-requires
 reader_unstarted-back-requires g c = subst IsLinkWorker (sym c.in-Err.ensures.err) tt
@@ -57,4 +58,18 @@ returns-in-Err-clause-next g c = λ dials low.
     went (put.twins ∙ ap (λ b. b.twins) back_is)
     (put.pairs ∙ ap (λ b. c.args.past.now.pairs.items ++ record { link_in = b.link_in; link_out = c.args.pair.link_out } ∷ []) back_is)
     put.room (omega (arith, put.lost, none_lost, s.tally.lost)) (omega (arith, put.again, none_again, s.tally.again)) c.requires.fresh.0 c.requires.fresh.1
-    (λ segs seen. omega (arith, rises)) refl)
+    (λ segs seen. omega (arith, rises)) refl (λ segs all. all))
+
+pub returns-in_default-clause-stops : goal.returns-in_default-clause-stops
+returns-in_default-clause-stops g c =
+    rw c.give_up.ensures.next (record { threads = λ more. absurd (omega (arith, more)); dials = λ full. absurd (omega (arith, full)) })
+
+pub returns-in-Err-clause-stops : goal.returns-in-Err-clause-stops
+returns-in-Err-clause-stops g c =
+    rw c.give_up-in-Err.ensures.next (record { threads = λ more. refl; dials = λ full. absurd (omega (arith, full)) })
+
+pub returns-in_default-clause-kept : goal.returns-in_default-clause-kept
+returns-in_default-clause-kept g c = rw c.give_up.ensures.next (ap length c.push_reserved.ensures.items ∙ length-push c.args.past.now.pairs.items _)
+
+pub returns-in-Err-clause-kept : goal.returns-in-Err-clause-kept
+returns-in-Err-clause-kept g c = rw c.give_up-in-Err.ensures.next (ap length c.put_past-twins.ensures.pairs ∙ length-push c.args.past.now.pairs.items _)

@@ -7,6 +7,7 @@ returns-in_default-clause-early g c = λ before read.
     let later = has-read-first _ _ before c.now-first.result read c.now-first.ensures in
     record {
       first = c.now-first.result;
+      began = rw (c.saturating_add-until.ensures, c.booted.ensures.exact) at (rw c.in_default.is at (c.serve-end.ensures.began (before ++ c.now-first.result ∷ []) later));
       early = rw c.saturating_add-until.ensures at (rw c.in_default.is at (c.serve-end.ensures.early (before ++ c.now-first.result ∷ []) later));
     }
 
@@ -53,3 +54,12 @@ pub returns-clause-sound : goal.returns-clause-sound
 returns-clause-sound g c =
     let (before, read) = told-before (g.C.Clock.readings c.args.world.clock) in
     ran-sound _ _ _ _ (returns-clause-served g c before read)
+
+pub returns-in_default-clause-trail : goal.returns-in_default-clause-trail
+returns-in_default-clause-trail g c = rw c.in_default.is at c.serve-end.ensures.trail
+
+pub returns-clause-trail : goal.returns-clause-trail
+returns-clause-trail g c = rw c.in-Some.is at c.serve-end.ensures.trail
+
+pub returns-clause-links : goal.returns-clause-links
+returns-clause-links g c = rw c.in-Some.is at c.serve-end.ensures.links

@@ -1,4 +1,4 @@
-use Rattle.text_commands.proofs.TaskLemmas.{ends-all, ends-more, nothing-done}
+use Rattle.text_commands.proofs.TaskLemmas.{closes-known, ends-all, ends-more, nothing-done}
 use Rattle.text_commands.proofs.work.run.Goals as goal
 
 pub returns-in_default-clause-ends : goal.returns-in_default-clause-ends
@@ -15,3 +15,8 @@ returns-in-Ok-false-clause-ends g c = λ X told.
     ends-all (g.W.Work.task c.args.work.now) (g.W.Work.took c.take_lines.new.work) c.is_task.ensures _ c.close.result X c.take_lines.new.lines.line told
     (rw c.in-Ok-false.field-0-test at c.in-Ok-false.ensures.takes)
     (λ lines taken. rw c.in-Ok-false.ensures.same at (c.close.ensures.closes lines taken))
+
+pub returns-in-Ok-false-clause-known : goal.returns-in-Ok-false-clause-known
+returns-in-Ok-false-clause-known g c =
+    let takes = rw c.in-Ok-false.field-0-test at c.in-Ok-false.ensures.takes in
+    closes-known (g.W.Work.task c.take_lines.new.work) c.close.result takes.lines _ _ (c.close.ensures.closes takes.lines takes.taken)

@@ -1,7 +1,7 @@
 use Rattle.std.proofs.Common.{Err, ap, ◌∙◌}
 use Rattle.wire_core.specs.Counts.{one_more}
 use Rattle.wire_core.proofs.CountLaws.{Rose-one_more}
-use Rattle.text_commands.proofs.TaskLemmas.{behind-end, behind-last, status-counts, stops-fault, stops-line}
+use Rattle.text_commands.proofs.TaskLemmas.{behind-end, behind-last, status-counts, status-known, stops-fault, stops-line, works-known}
 use Rattle.text_lines.specs.Streams.{rest_of}
 use Rattle.text_commands.proofs.work.take_lines.Goals as goal
 
@@ -35,5 +35,15 @@ pub returns-in-Err-clause-counts : goal.returns-in-Err-clause-counts
 returns-in-Err-clause-counts g c =
     let goes = c.loop-work.invariant.goes in
     let more = c.in-Err.ensures.counts_faults in
-    status-counts (g.W.Work.task c.args.work.now) (g.W.Work.took c.loop-work.work) c.in-Err.fault c.fault_status.result goes.lines (rest_of c.loop-work.lines (g.S.Source.left c.loop-work.input)) (g.S.Source.left c.next_line.new.source) c.loop-work.lines c.next_line.new.self goes.taken c.in-Err.ensures.fault (rw c.loop-work.invariant.same at c.fault_status.ensures)
+    status-counts (g.W.Work.task c.args.work.now) (g.W.Work.took c.loop-work.work) c.in-Err.fault c.fault_status.result goes.lines (rest_of c.loop-work.lines (g.S.Source.left c.loop-work.input)) (g.S.Source.left c.next_line.new.source) c.loop-work.lines c.next_line.new.self goes.limit goes.taken c.in-Err.ensures.fault (rw c.loop-work.invariant.same at c.fault_status.ensures)
     _ _ _ _ _ _ (λ read. Rose-one_more _ _ (more.rises (ap (λ f. Err f) read) ∙ ap (λ n. one_more n) c.loop-work.invariant.reads))
+
+pub returns-in-Err-take-clause-known : goal.returns-in-Err-take-clause-known
+returns-in-Err-take-clause-known g c =
+    let goes = c.loop-work.invariant.goes in
+    works-known (g.W.Work.task c.loop-work.work) c.in-Err-take.status goes.lines _ _ _ (c.in-Err-take.ensures.works goes.lines goes.taken)
+
+pub returns-in-Err-clause-known : goal.returns-in-Err-clause-known
+returns-in-Err-clause-known g c =
+    let goes = c.loop-work.invariant.goes in
+    status-known (g.W.Work.task c.args.work.now) (g.W.Work.took c.loop-work.work) c.in-Err.fault c.fault_status.result goes.lines (rest_of c.loop-work.lines (g.S.Source.left c.loop-work.input)) (g.S.Source.left c.next_line.new.source) c.loop-work.lines c.next_line.new.self goes.limit goes.taken c.in-Err.ensures.fault (rw c.loop-work.invariant.same at c.fault_status.ensures)

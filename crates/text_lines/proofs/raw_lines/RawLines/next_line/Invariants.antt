@@ -9,6 +9,7 @@ invariant-loop-self g l = record {
   unended : IsUnended l.self.line;
   passed : l.self.held.passed ≡ l.fn.self.held.passed + length l.self.line;
   within : l.self.held.passed + length l.self.held.octets ≤ most_octets;
+  limit : l.self.longest ≡ l.fn.self.longest;
   faults : g.S.Source.faults l.source ≡ g.S.Source.faults l.fn.source;
   ends : g.S.Source.ends l.source ≡ g.S.Source.ends l.fn.source;
 }

@@ -6,7 +6,7 @@ use Rattle.transcript.proofs.TakingLemmas.{line-answers, raw-none}
 use Rattle.transcript.proofs.lines.Lines.next_line.Goals as goal
 
 pub returns-in-Ok-Line-clause-answers : goal.returns-in-Ok-Line-clause-answers
-returns-in-Ok-Line-clause-answers g c = λ at reading goes_on.
+returns-in-Ok-Line-clause-answers g c = λ at reading goes_on limit.
     let takes = rw c.in-Ok-Line.field-0-is at c.in-Ok-Line.ensures.line in
     let says = rw c.line.ensures at (c.take_some.ensures.takes at reading) in
     rw goes_on
@@ -14,7 +14,7 @@ returns-in-Ok-Line-clause-answers g c = λ at reading goes_on.
     says c.in-Ok-Line.ensures.unended refl takes.0 (omega (arith, takes.1, length-append c.next_line.new.self.line (10 ∷ []))))
 
 pub returns-in-Ok-LastLine-clause-answers : goal.returns-in-Ok-LastLine-clause-answers
-returns-in-Ok-LastLine-clause-answers g c = λ at reading goes_on.
+returns-in-Ok-LastLine-clause-answers g c = λ at reading goes_on limit.
     let (takes, end, some, passed) = rw c.in-Ok-LastLine.field-0-is at c.in-Ok-LastLine.ensures.line in
     let says = rw c.line-in-Ok-LastLine.ensures at (c.take_some-in-Ok-LastLine.ensures.takes at reading) in
     let line = c.next_line.new.self.line in
@@ -23,5 +23,5 @@ returns-in-Ok-LastLine-clause-answers g c = λ at reading goes_on.
     says c.in-Ok-LastLine.ensures.unended (refl, end, some) whole (omega (arith, passed, ap length (append-nil line)))
 
 pub returns-in-Err-clause-answers : goal.returns-in-Err-clause-answers
-returns-in-Err-clause-answers g c = λ at reading goes_on.
-    rw c.refuse.ensures.same (raw-none c.in-Err.fault c.line_fault-fault.result at _ _ c.args.self.now.raw c.next_line.new.self c.in-Err.ensures.fault (c.line_fault-fault.ensures at reading))
+returns-in-Err-clause-answers g c = λ at reading goes_on limit.
+    rw c.refuse.ensures.same (raw-none c.in-Err.fault c.line_fault-fault.result at _ _ c.args.self.now.raw c.next_line.new.self limit c.in-Err.ensures.fault (c.line_fault-fault.ensures at reading))

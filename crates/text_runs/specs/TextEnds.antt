@@ -9,10 +9,10 @@ use Rattle.dynamic_command.specs.Dynamic.{dynamic_task}
 use Rattle.replay_command.specs.Measured.{MeasuresBy}
 use Rattle.replay_command.specs.Replay.{replay_task}
 use Rattle.reverse_script.specs.Printed.{reverse_task}
-use Rattle.text_commands.specs.Checks.{ChecksBy}
+use Rattle.text_commands.specs.Checks.{ChecksBy, IsCheckEnd}
 use Rattle.text_commands.specs.Generated.{GeneratesBy, WriteCounts}
 use Rattle.text_commands.specs.Shown.{show_task}
-use Rattle.text_commands.specs.Tasks.{EndsBy, EndsCounts, Task}
+use Rattle.text_commands.specs.Tasks.{EndsBy, EndsCounts, IsLinesEnd, Task}
 use Rattle.text_commands.specs.WholeInput.{most_whole}
 use Rattle.command_line.specs.declared.command.TextCommand.{TextCommand}
 use Rattle.command_line.specs.declared.command.TextCommand.TheVariants.{Replay, Dynamic, Reverse, Check, Show, Generate, Measure}
@@ -32,6 +32,16 @@ EndsAs Check status told left before now = EndsOver told (λ input. ChecksBy sta
 EndsAs Show status told left before now = EndsOver told (λ input. EndsBy show_task status input left before now)
 EndsAs (Generate count seed) status told left before now = GeneratesBy status count seed before now
 EndsAs (Measure count seed) status told left before now = MeasuresBy status count seed before now
+
+-- the statuses with which a command that reads its input may end, whether the source tells it or not
+abbrev pub IsEndAs : TextCommand → Status → Type 0
+IsEndAs Replay status = IsLinesEnd status
+IsEndAs Dynamic status = IsLinesEnd status
+IsEndAs Reverse status = IsLinesEnd status
+IsEndAs Check status = IsCheckEnd status
+IsEndAs Show status = IsLinesEnd status
+IsEndAs (Generate count seed) status = Unit {0}
+IsEndAs (Measure count seed) status = Unit {0}
 
 -- the counts that rose, by the status: the ends and faults of the source, and the faults of the sink
 abbrev pub CountsAs : TextCommand → Status → ℕ → ℕ → ℕ → ℕ → ℕ → ℕ → Type 0

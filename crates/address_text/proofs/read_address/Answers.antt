@@ -1,7 +1,7 @@
 use Rattle.std.proofs.Common.{◌≡◌, ℕ, List, take, Some, refl, subst, sym}
 use Rattle.wire_core.specs.Numbers.{number}
-use Rattle.agent_config.proofs.ValueLemmas.{address_in-spelled, address_in-none}
-use Rattle.agent_config.proofs.values.read_address.Goals as goal
+use Rattle.address_text.proofs.AddressLemmas.{address_in-spelled, address_in-none}
+use Rattle.address_text.proofs.read_address.Goals as goal
 
 pub returns-in-Ok : goal.returns-in-Ok
 returns-in-Ok c =

@@ -14,23 +14,23 @@ use Rattle.radius_packet.specs.Packet.{packet_text}
 use Rattle.radius_packet.specs.declared.reasons.Via.TheVariants.{Auth}
 use Rattle.diameter_message.specs.Message.{header_text, message_text}
 use Rattle.agent_settings.specs.Config.{are_settings_in_limits, is_client_in_limits}
+use Rattle.agent_events.specs.declared.events.Input.{Input}
 use Rattle.agent_events.specs.declared.events.Input.TheVariants as input
 use Rattle.generated_logins.specs.Generating.{logins_from}
-use Rattle.generated_logins.specs.Generator.{answer_line, answer_octets, drain_line, draw, event_line, generated_lines, has_bit, line_of, login_lines, moment, next_draw, opening_lines, repeat_lines, request_line, request_octets}
+use Rattle.generated_logins.specs.Generator.{answer_line, answer_octets, drain_line, draw, event_line, generated_lines, has_bit, login_lines, moment, next_draw, opening_lines, repeat_lines, request_line, request_octets}
+use Rattle.printed_lines.specs.Text.{line_of}
 use Rattle.generated_logins.proofs.GeneratorLemmas.{logins_from-draw}
 use Rattle.generated_logins.proofs.OctetLemmas.{few-answer, few-request}
 use Rattle.transcript.specs.Grammar.{IsDatagram, IsHappening, IsHex, Lacks}
 use Rattle.transcript.specs.Inputs.{inputs_of}
-use Rattle.transcript.specs.GeneratorLaws.{GeneratedLinesAreSound}
+use Rattle.replay_command.specs.GeneratorLaws.{GeneratedLinesAreSound}
 use Rattle.transcript.specs.Reading.{At, Step, read_from, read_line, said_on, start}
-use Rattle.transcript.specs.declared.happening.Happening.{Happening}
-use Rattle.transcript.specs.declared.happening.Happening.TheVariants as happening
 use Rattle.transcript.specs.declared.line.Line.{Line}
 use Rattle.transcript.specs.declared.line.Line.TheVariants as line
-use Rattle.transcript.specs.declared.position.Section.TheVariants.{Events}
 use Rattle.transcript.proofs.GrammarJoinLemmas.{address-spelled, any-lacks}
 use Rattle.transcript.proofs.GrammarWordLemmas.{hex-some, number-spelled}
-use Rattle.transcript.proofs.ReadingLemmas.{event-reads, event_next, hex-behind}
+use Rattle.transcript.proofs.ReadingLemmas.{StandsBehind, behind_events, event-reads, event_next, hex-behind}
+use Rattle.transcript.proofs.RecordLemmas.{told_as}
 
 -- ---- event lines
 
@@ -39,10 +39,10 @@ record IsRead (at : At) (octets : List ℕ) : Type 0 where
   said : Line
   next : At
   reads : read_line at octets ≡ Ok (said, next)
-  behind : next.section ≡ Events
+  behind : StandsBehind next
 
 abbrev IsEventLine : List ℕ → Type 0
-IsEventLine octets = (at : At) → at.section ≡ Events → IsRead at octets
+IsEventLine octets = (at : At) → StandsBehind at → IsRead at octets
 
 abbrev AreEventLines : List (List ℕ) → Type 0
 AreEventLines [] = Unit {0}
@@ -52,7 +52,7 @@ lines-append : (lines more : List (List ℕ)) → AreEventLines lines → AreEve
 lines-append [] more first second = second
 lines-append (octets ∷ lines) more first second = (first.0, lines-append lines more first.1 second)
 
-lines-sound : (at : At) (lines : List (List ℕ)) → at.section ≡ Events → AreEventLines lines → (read_from at lines).stop ≡ None
+lines-sound : (at : At) (lines : List (List ℕ)) → StandsBehind at → AreEventLines lines → (read_from at lines).stop ≡ None
 lines-sound at [] events are = refl
 lines-sound at (octets ∷ lines) events are =
     let is = are.0 at events in
@@ -60,15 +60,15 @@ lines-sound at (octets ∷ lines) events are =
 
 -- ---- the lines of a login
 
-login-line : (i : ℕ) (word : List ℕ) (words : List (List ℕ)) (told : Happening) → i < 1000000 → All (Lacks 32) (word ∷ words)
-    → IsHappening (word ∷ words) told → length (line_of (word ∷ words)) ≤ 1000 → IsEventLine (event_line i (word ∷ words))
-login-line i word words told few lack is short = λ at events.
+login-line : (i : ℕ) (word : List ℕ) (words : List (List ℕ)) (x : Input) → i < 1000000 → All (Lacks 32) (word ∷ words)
+    → IsHappening (word ∷ words) (told_as x) → length (line_of (word ∷ words)) ≤ 1000 → IsEventLine (event_line i (word ∷ words))
+login-line i word words x few lack is short = λ at events.
     let brief : length (decimal (moment i)) ≤ 8 = length-decimal-le 8 (moment i) (omega arith) (omega arith) (omega arith) in
     record {
-      said = line.Event (one_more at.lines) (moment i) (inputs_of at.stream told);
-      next = event_next at told;
+      said = line.Event (one_more at.lines) (moment i) (inputs_of at.stream (told_as x));
+      next = event_next at (told_as x);
       reads =
-          event-reads at (moment i) told (decimal (moment i)) (word ∷ words) (refl, omega arith) lack is (λ e. cc (sym events ∙ e))
+          event-reads at (moment i) (told_as x) (decimal (moment i)) (word ∷ words) (refl, omega arith) lack is (λ e. cc (sym events ∙ e))
           (omega (arith, brief, short, length-append (decimal (moment i)) (32 ∷ line_of (word ∷ words))));
       behind = refl;
     }
@@ -102,7 +102,7 @@ request-is i few =
     let hex = encode_lower (request_octets i) in
     let is = hex-written (request_octets i) octets.octets (some-request i) in
     login-line i (codes "auth") (codes "10.0.0.1" ∷ codes "1812" ∷ hex ∷ [])
-    (happening.Input (input.Datagram Auth 167772161 1812 (request_octets i))) few
+    (input.Datagram Auth 167772161 1812 (request_octets i)) few
     (hex-behind (codes "auth" ∷ codes "10.0.0.1" ∷ codes "1812" ∷ []) hex (request_octets i) refl is)
     (request-told hex (request_octets i) is)
     (omega (arith, octets.few, length-encode_with lower_digits (request_octets i)))
@@ -116,13 +116,13 @@ answer-is i r few =
     let octets = few-answer i r (omega arith) in
     let hex = encode_lower (answer_octets i r) in
     let is = hex-written (answer_octets i r) octets.octets (some-answer i r) in
-    login-line i (codes "link") (hex ∷ []) (happening.Link (answer_octets i r)) few
+    login-line i (codes "link") (hex ∷ []) (input.Message (answer_octets i r)) few
     (hex-behind (codes "link" ∷ []) hex (answer_octets i r) refl is) (hex, refl, is)
     (omega (arith, octets.few, length-encode_with lower_digits (answer_octets i r)))
 
 drain-is : (i : ℕ) → i < 1000000 → IsEventLine (drain_line i)
 drain-is i few =
-    login-line i (codes "drain") [] (happening.Input input.Drain) few
+    login-line i (codes "drain") [] input.Drain few
     (All-cons (Lacks 32) (codes "drain") [] (any-lacks 32 (codes "drain") refl) (All-nil (Lacks 32))) refl (omega arith)
 
 repeats-are : (place i r : ℕ) → i < 1000000 → AreEventLines (repeat_lines place i r)
@@ -149,7 +149,7 @@ logins-are (suc count) i r few =
 
 -- behind the settings and the one client, at the fourth line
 abbrev behind : At
-behind = record { controls = false; section = Events; addresses = 167772161 ∷ []; stream = []; lines = 3 }
+behind = behind_events (167772161 ∷ []) 3
 
 opening-goes : (more : List (List ℕ)) → (read_from start (opening_lines ++ more)).stop ≡ (read_from behind more).stop
 unfolding number read_number read_octet read_ipv4 are_settings_in_limits decode_pairs is_client_in_limits

@@ -1,0 +1,5 @@
+use Rattle.agent_core.proofs.LawOfLinks as lemmas
+use Rattle.agent_core.proofs.laws.disconnect_requests_are_last.Goals as goal
+
+pub returns : goal.returns
+returns c = lemmas.disconnect_is_last

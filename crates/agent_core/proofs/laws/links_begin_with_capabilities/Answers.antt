@@ -1,0 +1,5 @@
+use Rattle.agent_core.proofs.LawOfLinks as lemmas
+use Rattle.agent_core.proofs.laws.links_begin_with_capabilities.Goals as goal
+
+pub returns : goal.returns
+returns c = lemmas.greeted
