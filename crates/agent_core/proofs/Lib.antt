@@ -62,7 +62,9 @@ pub mod LawOfReplies
 pub mod LawOfSessions
 pub mod LawOfImages
 pub mod LawOfNumbers
+pub mod LeftOut
 pub mod LawOfDrops
+pub mod LawOfIdleInputs
 pub mod LawOfGuards
 pub mod LawOfReach
 pub mod LinkKinds

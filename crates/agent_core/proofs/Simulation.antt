@@ -35,7 +35,7 @@ pub dropped-unsent : (reason : Reason) → IsUnsent (Dropped reason ∷ [])
 dropped-unsent reason = record { application = refl; base = refl; first = refl; any = refl }
 
 -- a count to which nothing is added
-stays : (b : Bool) (n k : ℕ) → b ≡ false → k ≡ 0 → cond b k (n + k) ≡ n
+pub stays : (b : Bool) (n k : ℕ) → b ≡ false → k ≡ 0 → cond b k (n + k) ≡ n
 stays b n k on none = ap (λ c. cond c k (n + k)) on ∙ omega arith
 
 pub still-follows : (ps : List Place) (m : ℕ) (S : Ledger) → StandsAt ps m S → (input : Input) → begins ps input ≡ false → is_drain input ≡ false → (outputs : List Output) → IsUnsent outputs → Follows ps m S (still S.config ps m input outputs) (says S outputs)

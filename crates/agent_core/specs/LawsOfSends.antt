@@ -1,5 +1,5 @@
 -- Laws of the rule about what goes out, for every history.
-use Rattle.std.specs.Prelude.{◌≡◌, ℕ, ◌+◌, ◌*◌, ◌%◌, ◌≤◌, max, Bool, true, false, bit_and, List, [], ◌∷◌, ◌++◌, length, filter, option_map, option_to_list, slice_get, Option, Some, None, Ok, IfSome, if◌then◌else◌}
+use Rattle.std.specs.Prelude.{◌≡◌, ℕ, ◌+◌, ◌*◌, ◌%◌, ◌≤◌, ◌==◌, max, Bool, true, false, ◌&&◌, bit_and, List, [], ◌∷◌, ◌++◌, length, filter, map, option_map, option_to_list, slice_get, Option, Some, None, Ok, IfSome, if◌then◌else◌}
 use Rattle.std.specs.List.{AllByRecursion as Each, enumerate_from}
 use Rattle.diameter_message.specs.declared.header.Header.{Header}
 use Rattle.diameter_message.specs.Message.{parts_of}
@@ -12,7 +12,7 @@ use Rattle.agent_settings.specs.declared.config.Config.{Config}
 use Rattle.agent_settings.specs.Config.{InLimits}
 use Rattle.radius_packet.specs.declared.reasons.Reason.{Reason}
 use Rattle.agent_events.specs.declared.events.Input.{Input}
-use Rattle.agent_events.specs.declared.events.Input.TheVariants.{Datagram}
+use Rattle.agent_events.specs.declared.events.Input.TheVariants.{Datagram, Tick, Drain}
 use Rattle.agent_events.specs.declared.events.Output.{Output}
 use Rattle.agent_events.specs.declared.events.Output.TheVariants.{Send, Dropped}
 use Rattle.agent_core.specs.Settings.{end_number}
@@ -164,3 +164,48 @@ DropsAreQuiet = (config : Config) (history more : List Event) (m : ℕ) (one oth
     → IsDropped (outputs_after config history (record { moment = m; input = other }))
     → outputs_after config (history ++ record { moment = m; input = one } ∷ more) e
     ≡ outputs_after config (history ++ record { moment = m; input = other } ∷ more) e
+
+-- ---- what may be left out
+
+abbrev pub leaves_all : Input → ℕ → Bool
+leaves_all Tick outbox = true
+leaves_all Drain outbox = outbox == 0
+leaves_all input outbox = false
+
+-- a Tick, or a Drain where nothing is to be handed over, at which nothing goes out
+abbrev pub is_idle : Config → List Place → Event → Bool
+is_idle config ps e = leaves_all e.input (outbox ps) && length (place config ps e).outputs == 0
+
+-- the same event, no earlier than this moment
+abbrev pub not_before : ℕ → Event → Event
+not_before m e = record e { moment = max m e.moment }
+
+-- what is idle may be left out: all that goes out later is the same, if nothing comes earlier than before
+abbrev pub IdleInputsMayBeLeftOut : Type 0
+IdleInputsMayBeLeftOut = (config : Config) (history more : List Event) (idle e : Event)
+    → is_idle config (past config history) idle ≡ true
+    → outputs_after config (history ++ idle ∷ more) e
+    ≡ outputs_after config (history ++ map (not_before (max (now (past config history)) idle.moment)) more) (not_before (max (now (past config history)) idle.moment) e)
+
+-- the events that aren't idle, each at the greatest moment so far
+abbrev pub without_idle : Config → List Place → List Event → List Event
+without_idle config ps [] = []
+without_idle config ps (e ∷ es) =
+    if is_idle config ps e then without_idle config (place config ps e ∷ ps) es
+    else not_before (now ps) e ∷ without_idle config (place config ps e ∷ ps) es
+
+-- what goes out for each event, and for each that isn't idle
+abbrev pub each_outputs : Config → List Place → List Event → List (List Output)
+each_outputs config ps [] = []
+each_outputs config ps (e ∷ es) = (place config ps e).outputs ∷ each_outputs config (place config ps e ∷ ps) es
+
+abbrev pub busy_outputs : Config → List Place → List Event → List (List Output)
+busy_outputs config ps [] = []
+busy_outputs config ps (e ∷ es) =
+    if is_idle config ps e then busy_outputs config (place config ps e ∷ ps) es
+    else (place config ps e).outputs ∷ busy_outputs config (place config ps e ∷ ps) es
+
+-- without all that is idle, the same goes out for each of the others
+abbrev pub IdleInputsChangeNoOutput : Type 0
+IdleInputsChangeNoOutput = (config : Config) (history : List Event)
+    → each_outputs config [] (without_idle config [] history) ≡ busy_outputs config [] history

@@ -3,7 +3,7 @@
 ghost use Rattle.agent_core.specs.Laws.{PastGoesOn};
 ghost use Rattle.agent_core.specs.LawsOfLinks.{DisconnectRequestsAreLast, HomeRequestsAreAnsweredOnce, LinksBeginWithCapabilities, NothingIsSentWithoutALink, RequestsGoWhereTheLinkServes, SilentLinksClose, TicksWatchTheLink};
 ghost use Rattle.agent_core.specs.LawsOfRequests.{AcceptancesAreGuarded, AnswersSettle, FreshSessionsDiffer, RepliesAreTheSame, RepliesGoToClients, RequestsAreMatchedOnce, RequestsOfOneKeyAreApart};
-ghost use Rattle.agent_core.specs.LawsOfSends.{DropsAreQuiet, OutputsAreFew, RequestsAreNumbered, RequestsReachOverLinks, RoomIsLeft, SendsAreImages};
+ghost use Rattle.agent_core.specs.LawsOfSends.{DropsAreQuiet, IdleInputsChangeNoOutput, IdleInputsMayBeLeftOut, OutputsAreFew, RequestsAreNumbered, RequestsReachOverLinks, RoomIsLeft, SendsAreImages};
 
 /// A history with one more event has one more place.
 pub fn past_goes_on()
@@ -68,6 +68,16 @@ pub fn requests_reach_over_links()
 /// What is dropped leaves all that comes later as it is.
 pub fn drops_are_quiet()
     ensures { DropsAreQuiet }
+{}
+
+/// A Tick at which nothing goes out and a Drain of nothing may be left out.
+pub fn idle_inputs_may_be_left_out()
+    ensures { IdleInputsMayBeLeftOut }
+{}
+
+/// Without all that is idle, the same goes out for each of the others.
+pub fn idle_inputs_change_no_output()
+    ensures { IdleInputsChangeNoOutput }
 {}
 
 /// A Reply of code 2 goes out only for an answer that accepts the request, and again to that request.

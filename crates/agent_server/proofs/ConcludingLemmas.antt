@@ -13,6 +13,7 @@ use Rattle.wire_devices.specs.Sockets.{Socket}
 use Rattle.wire_devices.specs.Telling.{Adds, TellsOnly}
 use Rattle.agent_events.specs.declared.events.Input.{Input}
 use Rattle.agent_events.specs.declared.events.Input.TheVariants as inputs
+use Rattle.atomic_table.specs.Seated.{TableId}
 use Rattle.turnstile.specs.declared.view.Known.{Known}
 use Rattle.turnstile.specs.Knowing.{Carries, Joined}
 use Rattle.turnstile.specs.Passes.{known}
@@ -32,13 +33,14 @@ use Rattle.server_workers.specs.declared.workers.Worker.TheVariants as worker
 use Rattle.agent_server.specs.Desks.{HasRead, StandsBy}
 use Rattle.server_workers.specs.Entries.{RunTurn, is_entry_of, is_tick, replies, replies_by, ticks}
 use Rattle.server_workers.specs.LinkReading.{LinkMayTake}
-use Rattle.server_workers.specs.Running.{Ends, Keeps, LateDrainsAreEmpty, RoseBy, RunOver, StopsFor, counted}
-use Rattle.agent_server.specs.Server.{Served, status_given}
+use Rattle.server_workers.specs.Running.{Ends, Keeps, LateDrainsAreEmpty, RoseBy, RunOver, StopsFor, InOrder, counted, number_in, numbers_of, ports_in, ports_of}
+use Rattle.agent_server.specs.Server.{Served, status_given, twins_of}
 use Rattle.server_workers.specs.SocketReading.{AddsAtLeast, ReadsSocket, ServedSocket, SocketMayTake}
 use Rattle.server_workers.specs.Segments.{ServerTurn, is_beginning}
-use Rattle.agent_server.specs.Starting.{Alike, AllDone, IsSocketBack, SocketDone, StartsFor}
+use Rattle.agent_server.specs.Starting.{Alike, AllDone, IsLinkReaderOf, IsSocketBack, SocketDone, StartsFor}
 use Rattle.agent_server.proofs.AskingLemmas.{All-right}
 use Rattle.server_workers.proofs.DialLemmas.{rose-on}
+use Rattle.server_workers.proofs.LinkOverLemmas.{same-ports}
 use Rattle.agent_server.proofs.FinalLemmas.{final, over-wider}
 use Rattle.agent_server.proofs.LateDrains.{late-empty}
 use Rattle.server_workers.proofs.TurnLemmas.{of-append}
@@ -110,6 +112,7 @@ socket-before via mine s t u out alike served = record {
     asks = served.reads.asks;
     grows = omega (arith, served.reads.grows, alike.faults.never_falls);
     failed = λ more. let rose = served.reads.failed (omega (arith, more, alike.row)) in omega (arith, rose, alike.faults.never_falls);
+    port = served.reads.port ∙ alike.port;
   };
   last = served.last;
 }
@@ -299,3 +302,37 @@ module _ {C D I O : Type 0} where
   links-all (Some t) pairs first middle last none one kept =
       let nothing = ap length none in
       omega (arith, nothing, one, kept.links_are, kept.made_is)
+
+-- ---- where the twins are
+
+pub twins-at : {C D I O : Type 0} (told : D → Socket) (trail : Option (Trail C D I O)) (twins : Twins D) (ports : Option ℕ × Option ℕ) → IfSome trail (λ t. twins_of t ≡ twins)
+    → ports_of told twins ≡ ports → IfSome trail (λ t. ports_of told (twins_of t) ≡ ports)
+twins-at {C} {D} {I} {O} told None twins ports is at = is
+twins-at {C} {D} {I} {O} told (Some trail) twins ports is at = ap (λ (t : Twins D). ports_of told t) is ∙ at
+
+pub ports-on : {C D I O : Type 0} (told : D → Socket) (trail : Option (Trail C D I O)) (ports later : Option ℕ × Option ℕ) → IfSome trail (λ t. ports_of told (twins_of t) ≡ ports)
+    → ports ≡ later → IfSome trail (λ t. ports_of told (twins_of t) ≡ later)
+ports-on {C} {D} {I} {O} told None ports later at same = at
+ports-on {C} {D} {I} {O} told (Some trail) ports later at same = at ∙ same
+
+pub link-ports : {C D I : Type 0} (told : D → Socket) (turnstile : TableId) (number : ℕ) (k : Known (AgentDesk C) Input Heard) (inlet : I) (twins : Twins D) (worker : Worker (AgentDesk C) D I)
+    → IsLinkReaderOf turnstile number k inlet twins worker → ports_in told worker ≡ ports_of told twins
+link-ports {C} {D} {I} told turnstile number k inlet twins (worker.Link alloc shared pass link auth acct) (place, same, is_auth, is_acct) =
+    same-ports (ap (λ (d : D). (told d).port) is_auth) (ap (λ (d : D). (told d).port) is_acct)
+link-ports {C} {D} {I} told turnstile number k inlet twins (worker.Reader alloc shared pass via socket) is = absurd is
+
+-- ---- in which order links were made
+
+pub order-at : {C D I O : Type 0} (hears : I → Inlet) (trail : Option (Trail C D I O)) (pairs : List (Pair I O)) (n : ℕ) → IfSome trail (λ t. t.links ≡ pairs)
+    → InOrder n (numbers_of hears pairs) → IfSome trail (λ t. InOrder n (numbers_of hears t.links))
+order-at {C} {D} {I} {O} hears None pairs n is ordered = is
+order-at {C} {D} {I} {O} hears (Some trail) pairs n is ordered = subst (λ (ps : List (Pair I O)). InOrder n (numbers_of hears ps)) (sym is) ordered
+
+-- the first link is the first that was made
+pub first-in-order : {C D I O : Type 0} (hears : I → Inlet) (turnstile : TableId) (number : ℕ) (k : Known (AgentDesk C) Input Heard) (inlet : I) (twins : Twins D) (worker : Worker (AgentDesk C) D I)
+    (pairs : List (Pair I O)) (n : ℕ) → IsLinkReaderOf turnstile number k inlet twins worker → pairs ≡ [] → TellsOnly (hears inlet).number n
+    → InOrder n (numbers_of hears pairs ++ number_in hears worker ∷ [])
+first-in-order {C} {D} {I} {O} hears turnstile number k inlet twins (worker.Link alloc shared pass link auth acct) pairs n (place, same, is_auth, is_acct) none known =
+    subst (λ (ps : List (Pair I O)). InOrder n (numbers_of hears ps ++ (hears link).number ∷ [])) (sym none)
+    (subst (λ (i : I). TellsOnly (hears i).number n) (sym same) known, tt)
+first-in-order {C} {D} {I} {O} hears turnstile number k inlet twins (worker.Reader alloc shared pass via socket) pairs n is none known = absurd is

@@ -15,7 +15,7 @@ use Rattle.turnstile.specs.Turns.{Numbered, StartsWith, of, plain}
 use Rattle.server_workers.specs.declared.running.RunEnd.{RunEnd}
 use Rattle.server_workers.specs.declared.running.RunEnd.TheVariants as run
 use Rattle.server_workers.specs.declared.links.Pair.{Pair}
-use Rattle.server_workers.specs.Entries.{EachEntry, EndsWith}
+use Rattle.server_workers.specs.Entries.{HasLeave, EachEntry, EndsWith}
 use Rattle.server_workers.specs.LinkReading.{LinkMayTake}
 use Rattle.server_workers.specs.Running.{ClosedFor, EndsRun, HasReaders, HasSpare, LeftAtEnd, NoLeave, RunOver, StopsFor}
 use Rattle.agent_server.specs.Runs.{IsRun, closed, places_of}
@@ -43,12 +43,13 @@ ends-wider run.Closed row refused segs seen seen' more own (quiet, (cause, final
   (cause, final, ends-grow (ClosedFor cause) segs more (λ seg. closed_for-grow cause seg more) ends),
 )
 ends-wider run.Left row refused segs seen seen' more own ends = subst LeftAtEnd (sym own) ends
-ends-wider run.Worn row refused segs seen seen' more own (many, (cause, goes_on, ends)) = (
+ends-wider run.Worn row refused segs seen seen' more own (many, left, (cause, goes_on, ends)) = (
   length-grow segs more ∙ many,
+  subst HasLeave (sym own) left,
   (cause, goes_on, ends-grow (ClosedFor cause) segs more (λ seg. closed_for-grow cause seg more) ends),
 )
-ends-wider run.LinkFault row refused segs seen seen' more own ends = ends
-ends-wider run.NoThread row refused segs seen seen' more own ends = ends
+ends-wider run.LinkFault row refused segs seen seen' more own (full, left) = (full, subst HasLeave (sym own) left)
+ends-wider run.NoThread row refused segs seen seen' more own (rose, left) = (rose, subst HasLeave (sym own) left)
 ends-wider run.NoMemory row refused segs seen seen' more own ends = tt
 
 module _ {I O : Type 0} (hears : I → Inlet) (speaks : O → Outlet) where
@@ -116,7 +117,7 @@ ends-by : (end : RunEnd) (row : ℕ) (refused : Type 0) (segs : List (List Serve
     → EndsRun end row refused segs turns → EndsBy end row refused count last (of 0 turns)
 ends-by run.Closed row refused segs turns count last told same (quiet, (cause, final, ends)) = (quiet, (cause, final, told cause ends))
 ends-by run.Left row refused segs turns count last told same ends = ends
-ends-by run.Worn row refused segs turns count last told same (many, (cause, other, ends)) = (same ∙ many, (cause, other, told cause ends))
+ends-by run.Worn row refused segs turns count last told same (many, left, (cause, other, ends)) = (same ∙ many, left, (cause, other, told cause ends))
 ends-by run.LinkFault row refused segs turns count last told same ends = ends
 ends-by run.NoThread row refused segs turns count last told same ends = ends
 ends-by run.NoMemory row refused segs turns count last told same ends = tt

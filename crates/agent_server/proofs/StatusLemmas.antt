@@ -15,7 +15,7 @@ use Rattle.turnstile.specs.Turns.{of, plain}
 use Rattle.server_workers.specs.declared.heard.Heard.{Heard}
 use Rattle.server_workers.specs.declared.running.RunEnd.{RunEnd}
 use Rattle.server_workers.specs.declared.running.RunEnd.TheVariants as run
-use Rattle.server_workers.specs.Entries.{RunTurn, is_final}
+use Rattle.server_workers.specs.Entries.{HasLeave, RunTurn, is_final}
 use Rattle.server_workers.specs.Running.{LeftAtEnd, NoLeave, StopsFor}
 use Rattle.agent_server.specs.Runs.{IsRun, closed, has_left, history, places_of}
 use Rattle.agent_events.specs.Kinds.{is_leave}
@@ -71,6 +71,11 @@ left-finished turns l =
       plain p.back,
       (l.ask, (l.heard, ap (λ (ts : List ServerTurn). plain ts) p.whole ∙ plain-append p.front ((0, entry) ∷ p.back), l.finished)),
     )
+
+left-has : (turns : List ServerTurn) → LeftAtEnd (of 0 turns) → HasLeave (of 0 turns)
+left-has turns l =
+    let entry : RunTurn = Some (l.ask, l.heard) in
+    (l.front ++ entry ∷ l.between, Some (Drain, l.last) ∷ l.rest, (l.left, l.whole ∙ sym (append_assoc l.front (entry ∷ l.between) (Some (Leave, l.left) ∷ Some (Drain, l.last) ∷ l.rest))))
 
 -- ---- causes
 
@@ -129,9 +134,9 @@ worn-holds earlier x each other many =
 abbrev pub EndsBy : RunEnd → ℕ → Type 0 → ℕ → Option LinkCause → List RunTurn → Type 0
 EndsBy run.Closed row refused count last own = NoLeave own × ((cause : LinkCause) × (is_final cause ≡ true) × (last ≡ Some cause))
 EndsBy run.Left row refused count last own = LeftAtEnd own
-EndsBy run.Worn row refused count last own = (count ≡ 256) × ((cause : LinkCause) × (is_final cause ≡ false) × (last ≡ Some cause))
-EndsBy run.LinkFault row refused count last own = row ≡ 16
-EndsBy run.NoThread row refused count last own = refused
+EndsBy run.Worn row refused count last own = (count ≡ 256) × HasLeave own × ((cause : LinkCause) × (is_final cause ≡ false) × (last ≡ Some cause))
+EndsBy run.LinkFault row refused count last own = (row ≡ 16) × HasLeave own
+EndsBy run.NoThread row refused count last own = refused × HasLeave own
 EndsBy run.NoMemory row refused count last own = Unit {0}
 
 -- each link has its span, but where memory was wanting
@@ -196,21 +201,22 @@ module _ (own turns : List RunTurn) (causes earlier : List LinkCause) (a c row :
 
   other-because : (cause : LinkCause) (links : ℕ) (b : Bool) → nat_le 256 links ≡ b → is_final cause ≡ false → causes ≡ earlier ++ cause ∷ [] → All IsOther earlier
       → links ≡ length earlier + 1 → length earlier + 1 ≤ 256
-      → ((if b then LinkEnded cause else Done) ≡ Done → LeftAtEnd own × HasFinished turns)
+      → ((if b then LinkEnded cause else Done) ≡ Done → LeftAtEnd own × HasFinished turns) → HasLeave own
       → Because (if b then LinkEnded cause else Done) own turns causes a c row refused
-  other-because cause links true is other closes each all few done =
+  other-because cause links true is other closes each all few done left =
       let many = leb-true 256 links is in
-      subst (λ l. AreWorn l cause) (sym closes) (worn-holds earlier cause each other (omega arith))
-  other-because cause links false is other closes each all few done =
+      (subst (λ l. AreWorn l cause) (sym closes) (worn-holds earlier cause each other (omega arith)), left)
+  other-because cause links false is other closes each all few done left =
       done-because (Some cause) closes each (λ code same. other-refused cause code other same) (done refl)
 
   ended-because : (last : Option LinkCause) (links : ℕ) → causes ≡ earlier ++ option_to_list last → All IsOther earlier → links ≡ length earlier + 1
       → length earlier + 1 ≤ 256 → (ended_status last links ≡ Done → LeftAtEnd own × HasFinished turns)
+      → ((cause : LinkCause) → last ≡ Some cause → is_final cause ≡ false → HasLeave own)
       → Because (ended_status last links) own turns causes a c row refused
-  ended-because None links closes each all few done = done-because None closes each (λ code same. cc) (done refl)
-  ended-because (Some (Refused code)) links closes each all few done = (earlier, ([], closes))
-  ended-because (Some Left) links closes each all few done = done-because (Some Left) closes each (λ code same. cc) (done refl)
-  ended-because (Some cause) links closes each all few done = other-because cause links (nat_le 256 links) refl refl closes each all few done
+  ended-because None links closes each all few done left = done-because None closes each (λ code same. cc) (done refl)
+  ended-because (Some (Refused code)) links closes each all few done left = (earlier, ([], closes))
+  ended-because (Some Left) links closes each all few done left = done-because (Some Left) closes each (λ code same. cc) (done refl)
+  ended-because (Some cause) links closes each all few done left = other-because cause links (nat_le 256 links) refl refl closes each all few done (left cause refl refl)
 
 -- where the link was closed for the agent's leave, some socket failed for good or the writer took it
 closed-leave : (config : Config) (a c : ℕ) → a ≢ 16 → c ≢ 16 → (turns : List ServerTurn) → All (Asks a c) turns → NoLeave (of 0 turns)
@@ -270,9 +276,16 @@ module _ (config : Config) (until row : ℕ) (refused : Type 0) (links : ℕ) (t
   Says status = Because status (of 0 turns) (plain turns) causes a c row refused
 
   ended-says : (end : RunEnd) (f : At end) → links ≡ length f.earlier + 1
-      → (ended_status last links ≡ Done → LeftAtEnd (of 0 turns) × HasFinished (plain turns)) → Says (ended_status last links)
-  ended-says end f all done =
-      ended-because (of 0 turns) (plain turns) causes f.earlier a c row refused last links f.closes f.each all f.few done
+      → (ended_status last links ≡ Done → LeftAtEnd (of 0 turns) × HasFinished (plain turns))
+      → ((cause : LinkCause) → last ≡ Some cause → is_final cause ≡ false → HasLeave (of 0 turns)) → Says (ended_status last links)
+  ended-says end f all done left =
+      ended-because (of 0 turns) (plain turns) causes f.earlier a c row refused last links f.closes f.each all f.few done left
+
+  closed-finally : (f : At run.Closed) (cause : LinkCause) → last ≡ Some cause → is_final cause ≡ false → HasLeave (of 0 turns)
+  closed-finally f cause is other =
+      let (quiet, (last_cause, final, last_is)) = f.ends in
+      let same : last_cause ≡ cause = let e : Some last_cause ≡ Some cause = sym last_is ∙ is in cc in
+      absurd (true≢false (sym final ∙ ap is_final same ∙ other))
 
   closed-done : (f : At run.Closed) → false ≡ ((a == 16) || (c == 16)) → ended_status last links ≡ Done → ⊥
   closed-done f sound done =
@@ -282,7 +295,7 @@ module _ (config : Config) (until row : ℕ) (refused : Type 0) (links : ℕ) (t
 
   worn-done : (f : At run.Worn) → ended_status last links ≡ Done → ⊥
   worn-done f done =
-      let (many, (cause, other, is)) = f.ends in
+      let (many, left, (cause, other, is)) = f.ends in
       let e : LinkEnded cause ≡ Done =
       sym (ended-other cause links other (omega (arith, f.all, many))) ∙ ap (λ l. ended_status l links) (sym is) ∙ done in
       cc
@@ -294,11 +307,11 @@ module _ (config : Config) (until row : ℕ) (refused : Type 0) (links : ℕ) (t
   says run.LinkFault true is f = failed-row a c is
   says run.LinkFault false is f = f.ends
   says run.Closed true is f = failed-row a c is
-  says run.Closed false is f = ended-says run.Closed f f.all (λ done. absurd (closed-done f is done))
+  says run.Closed false is f = ended-says run.Closed f f.all (λ done. absurd (closed-done f is done)) (closed-finally f)
   says run.Left true is f = failed-row a c is
-  says run.Left false is f = ended-says run.Left f f.all (λ done. (f.ends, left-finished turns f.ends))
+  says run.Left false is f = ended-says run.Left f f.all (λ done. (f.ends, left-finished turns f.ends)) (λ cause at other. left-has turns f.ends)
   says run.Worn true is f = failed-row a c is
-  says run.Worn false is f = ended-says run.Worn f f.all (λ done. absurd (worn-done f done))
+  says run.Worn false is f = ended-says run.Worn f f.all (λ done. absurd (worn-done f done)) (λ cause at other. f.ends.1)
 
   -- each status that stands is given, unless one with a lesser rank is
   pub is-given : (end : RunEnd) (failed : Bool) (starts starts' : ℕ) → failed ≡ ((a == 16) || (c == 16)) → StopsFor end row starts starts' → At end
@@ -325,7 +338,7 @@ module _ (config : Config) (until row : ℕ) (refused : Type 0) (links : ℕ) (t
 
   is-worn : (f : At run.Worn) → (cause : LinkCause) × AreWorn causes cause
   is-worn f =
-      let (many, (cause, other, is)) = f.ends in
+      let (many, left, (cause, other, is)) = f.ends in
       (cause, subst (λ l. AreWorn l cause) (sym (f.closes ∙ ap (λ l. f.earlier ++ option_to_list l) is)) (worn-holds f.earlier cause f.each other many))
 
   -- where nothing else ended the run, the agent took its leave at its end

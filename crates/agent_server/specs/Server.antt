@@ -17,10 +17,11 @@ use Rattle.turnstile.specs.Turns.{Numbered, of, plain}
 use Rattle.server_workers.specs.declared.heard.Heard.{Heard}
 use Rattle.server_workers.specs.declared.running.RunEnd.{RunEnd}
 use Rattle.server_workers.specs.declared.running.RunEnd.TheVariants as run
+use Rattle.server_workers.specs.declared.running.Twins.{Twins}
 use Rattle.server_workers.specs.declared.links.Pair.{Pair}
 use Rattle.agent_server.specs.declared.trail.Trail.{Trail}
 use Rattle.agent_server.specs.Desks.{HasRead}
-use Rattle.server_workers.specs.Entries.{RunTurn, is_final, replies_by, ticks}
+use Rattle.server_workers.specs.Entries.{HasLeave, RunTurn, is_final, replies_by, ticks}
 use Rattle.server_workers.specs.LinkReading.{LinkMayTake}
 use Rattle.server_workers.specs.Running.{LeftAtEnd, RoseBy}
 use Rattle.agent_server.specs.Runs.{IsRun, history, places_of}
@@ -85,12 +86,12 @@ HasFinished turns =
 abbrev pub Because : Status → List RunTurn → List RunTurn → List LinkCause → ℕ → ℕ → ℕ → Type 0 → Type 0
 Because Done own turns causes auth acct dials refused =
     LeftAtEnd own × HasFinished turns × ((code : ℕ) → ¬ Holds causes (Refused code))
-Because LinkFault own turns causes auth acct dials refused = dials ≡ 16
+Because LinkFault own turns causes auth acct dials refused = (dials ≡ 16) × HasLeave own
 Because (PeerRefused code) own turns causes auth acct dials refused = Holds causes (Refused code)
-Because NoThread own turns causes auth acct dials refused = refused
+Because NoThread own turns causes auth acct dials refused = refused × HasLeave own
 Because OutOfMemory own turns causes auth acct dials refused = Unit {0}
 Because DatagramFault own turns causes auth acct dials refused = (auth ≡ 16) ⊎ (acct ≡ 16)
-Because (LinkEnded cause) own turns causes auth acct dials refused = AreWorn causes cause
+Because (LinkEnded cause) own turns causes auth acct dials refused = AreWorn causes cause × HasLeave own
 Because status own turns causes auth acct dials refused = ⊥
 
 -- Each of these statuses is given where it stands, unless one with a lesser rank is.
@@ -167,6 +168,10 @@ module _ {C D I O : Type 0} (readings : C → Option (List ℕ)) (told : D → S
     pub given : IsGiven status (closings (places_of config (plain trail.turns))) auth'.row acct'.row dials'.row starts starts'
     pub leaves : 3 < rank status → ((cause : LinkCause) → ¬ AreWorn (closings (places_of config (plain trail.turns))) cause)
         → LeavesAtEnd until (plain trail.turns)
+
+-- the twins of both sockets
+abbrev pub twins_of : {C D I O : Type 0} → Trail C D I O → Twins D
+twins_of {C} {D} {I} {O} trail = record { auth = trail.auth_twin; acct = trail.acct_twin }
 
 -- ---- a run without workers
 

@@ -1,6 +1,6 @@
 //! The server: one core, at which the writer of the link and its workers take turns.
 
-ghost use Rattle.std.specs.Prelude.{◌≡◌, ◌+◌, ◌<◌, ◌≤◌, ◌⊎◌, ℕ, List, [], ◌∷◌, length, vec_capacity, IfOk, IfErr, IfSome, IfNone, IsSome, MatchResult, Ok, Err, None};
+ghost use Rattle.std.specs.Prelude.{◌≡◌, ◌+◌, ◌<◌, ◌≤◌, ◌⊎◌, ◌++◌, ℕ, List, [], ◌∷◌, length, vec_capacity, IfOk, IfErr, IfSome, IfNone, IsSome, MatchResult, Ok, Err, None};
 ghost use Rattle.std.specs.Arc.{arc_value};
 ghost use Rattle.wire_core.specs.Counts.{Rose};
 ghost use Rattle.radius_packet.specs.declared.reasons.Via.TheVariants.{Auth, Acct};
@@ -15,8 +15,9 @@ ghost use Rattle.turnstile.specs.Passes.{known, table_of};
 ghost use Rattle.turnstile.specs.Turns.{of};
 ghost use Rattle.agent_server.specs.Desks.{HasRead, StandsBy};
 ghost use Rattle.server_workers.specs.Entries.{ticks};
-ghost use Rattle.server_workers.specs.Running.{Keeps, RoseBy, StartedAs, counted};
-ghost use Rattle.agent_server.specs.Server.{Began, EndsEarly, HasTrail, Served, status_given};
+ghost use Rattle.wire_devices.specs.Telling.{TellsOnly};
+ghost use Rattle.server_workers.specs.Running.{Keeps, RoseBy, StartedAs, counted, ports_in, ports_of, InOrder, number_in, numbers_of};
+ghost use Rattle.agent_server.specs.Server.{Began, EndsEarly, HasTrail, Served, status_given, twins_of};
 ghost use Rattle.agent_server.specs.Starting.{Alike, AllDone, AreShares, FirstFails, FirstOpened, IsAt, IsLinkReader, IsLinkReaderOf, IsRead, IsReader, IsReaderOf, IsReady, IsSocketBack, IsSocketWorker, IsStart, StartsFor};
 ghost use Rattle.server_workers.specs.Workers.{CanRun};
 
@@ -31,7 +32,7 @@ use peer_machine::LinkCause;
 use radius_packet::Via;
 use server_workers::{
     Dialling, Ended, Heard, Links, Live, MOST_LINKS, Pair, Past, RunBase, RunEnd, Shared, Twins,
-    dial, enter, reader_unstarted, serve_links,
+    dial, enter, reader_unstarted, serve_links, take_leave,
 };
 use std::alloc::Global;
 use std::hash::RandomState;
@@ -210,6 +211,8 @@ where
     ensures opened { IfOk result (λ first. FirstOpened L.In.told L.Out.told D.told first (known pass.new).seen (L.told dialer.old) (L.told dialer.new)) }
     ensures made { IfOk result (λ first. L.made dialer.new ≡ counted (L.made dialer.old) 1) }
     ensures alike { IfOk result (λ first. Alike (D.told auth.old) (D.told auth.new) × Alike (D.told acct.old) (D.told acct.new)) }
+    ensures ports { IfOk result (λ first. ports_of D.told first.twins ≡ ((D.told auth.old).port, (D.told acct.old).port)) }
+    ensures numbered { IfOk result (λ first. TellsOnly (L.In.told first.pair.link_in).number (L.made dialer.old)) }
     ensures failed { IfErr result (λ status. FirstFails status (known pass.new).seen (L.told dialer.old) (L.told dialer.new)
         (Rose (D.told auth.old).faults (D.told auth.new).faults ⊎ Rose (D.told acct.old).faults (D.told acct.new).faults)) }
 {
@@ -553,7 +556,7 @@ where
     ensures faults { W.faults crew.new ≡ W.faults crew.old }
     ensures started { W.started crew.new ≡ W.started crew.old }
 {
-    let _ = enter(rt, turnstile, &mut pass, &Input::Leave);
+    let _ = take_leave(rt, turnstile, &mut pass);
     let Unteamed { auth, acct, link } = team;
     let auth = rejoin_socket(turnstile, &mut pass, crew, auth);
     let acct = rejoin_socket(turnstile, &mut pass, crew, acct);
@@ -617,6 +620,9 @@ where
     ensures some { IsSome result.trail }
     ensures started { W.started crew.old ≤ W.started crew.new }
     ensures kept { IfSome result.trail (λ trail. Keeps (length past.pairs.items + 1) (length trail.links) (L.made dialer.old) (L.made dialer.new)) }
+    ensures ports { IfSome result.trail (λ trail. ports_of D.told (twins_of trail) ≡ ports_in D.told team.link) }
+    ensures order { (made : ℕ) → InOrder made (numbers_of L.In.told past.pairs.items ++ number_in L.In.told team.link ∷ [])
+        → L.made dialer.old ≡ counted made (length past.pairs.items + 1) → IfSome result.trail (λ trail. InOrder made (numbers_of L.In.told trail.links)) }
     ensures served { (base : RunBase) (dials : Dials) (auth acct : Socket) → Carries (StandsBy C.readings) (known pass) base
         → RoseBy (ticks (of 0 (known pass).seen)) dials.faults (L.told dialer.old).faults → dials.faults ≤ (L.told dialer.old).faults
         → StartsFor D.told Auth 1 (known pass) auth team.auth → StartsFor D.told Acct 2 (known pass) acct team.acct
@@ -657,6 +663,7 @@ where
     requires acct { IsAt (arc_value turnstile.now) 2 (table_of acct.pass) (known acct.pass) }
     ensures some { IsSome result.trail }
     ensures links { IfSome result.trail (λ trail. trail.links ≡ past.pairs.items) }
+    ensures twins { IfSome result.trail (λ trail. twins_of trail ≡ twins) }
     ensures served { (base : RunBase) (first then last : Dials) (starts now : ℕ) (auth_socket acct_socket : Socket) (k : Known (AgentDesk C) Input Heard)
         → AllDone C.readings D.told I.told O.told base first then last starts now auth_socket acct_socket k (known pass) end twins past auth acct
         → IfSome result.trail (λ trail. Served C.readings D.told I.told O.told base.config base.until base.before auth_socket acct_socket (D.told result.auth) (D.told result.acct)
@@ -715,6 +722,8 @@ where
     requires rows { ((D.told auth).row ≡ 0) × ((D.told acct).row ≡ 0) × ((L.told dialer.old).row ≡ 0) }
     ensures trail { HasTrail result.trail (W.started crew.old) (W.started crew.new) }
     ensures links { IfSome result.trail (λ trail. L.made dialer.new ≡ counted (L.made dialer.old) (length trail.links)) }
+    ensures ports { IfSome result.trail (λ trail. ports_of D.told (twins_of trail) ≡ ((D.told auth).port, (D.told acct).port)) }
+    ensures order { IfSome result.trail (λ trail. InOrder (L.made dialer.old) (numbers_of L.In.told trail.links)) }
     ensures began { (base : RunBase) → Carries (StandsBy C.readings) (known stand.pass) base
         → IfNone result.trail (Began base.config base.until base.before (C.readings result.clock)) }
     ensures served { (base : RunBase) → Carries (StandsBy C.readings) (known stand.pass) base
@@ -791,6 +800,8 @@ where
     ensures home { result.home ≡ None }
     ensures trail { HasTrail result.trail (W.started world.crew) (W.started result.world.crew) }
     ensures links { IfSome result.trail (λ trail. L.made result.world.dialer ≡ counted (L.made world.dialer) (length trail.links)) }
+    ensures ports { IfSome result.trail (λ trail. ports_of D.told (twins_of trail) ≡ ((D.told world.auth).port, (D.told world.acct).port)) }
+    ensures order { IfSome result.trail (λ trail. InOrder (L.made world.dialer) (numbers_of L.In.told trail.links)) }
     ensures began { (before : List ℕ) → HasRead (C.readings world.clock) before []
         → IfNone result.trail (Began config until before (C.readings result.world.clock)) }
     ensures served { (before : List ℕ) → HasRead (C.readings world.clock) before []

@@ -5,8 +5,8 @@ ghost use Rattle.wire_core.specs.Counts.{Rose};
 ghost use Rattle.agent_settings.specs.declared.config.Config.{Config};
 ghost use Rattle.agent_config.specs.Settings.{settings_in};
 ghost use Rattle.agent_server.specs.Desks.{HasRead};
-ghost use Rattle.agent_server.specs.Server.{HasTrail};
-ghost use Rattle.server_workers.specs.Running.{counted};
+ghost use Rattle.agent_server.specs.Server.{HasTrail, twins_of};
+ghost use Rattle.server_workers.specs.Running.{InOrder, counted, numbers_of, ports_of};
 ghost use Rattle.text_commands.specs.SettingsInput.{SettingsNot};
 ghost use Rattle.text_commands.specs.WholeInput.{most_whole};
 ghost use Rattle.socket_commands.specs.Serves.{EndedEarly, IsSoundEnd, RanServer};
@@ -75,6 +75,10 @@ where
         → HasTrail result.trail (W.started world.crew) (W.started result.world.crew) }
     ensures links { (address auth acct peer port millis : ℕ) → command_of_words words.now ≡ Some (commands.Run (places.Serve address auth acct peer port) millis)
         → IfSome result.trail (λ trail. L.made result.world.dialer ≡ counted (L.made world.dialer) (length trail.links)) }
+    ensures ports { (address auth acct peer port millis : ℕ) → command_of_words words.now ≡ Some (commands.Run (places.Serve address auth acct peer port) millis)
+        → IfSome result.trail (λ trail. ports_of D.told (twins_of trail) ≡ ((D.told world.auth).port, (D.told world.acct).port)) }
+    ensures order { (address auth acct peer port millis : ℕ) → command_of_words words.now ≡ Some (commands.Run (places.Serve address auth acct peer port) millis)
+        → IfSome result.trail (λ trail. InOrder (L.made world.dialer) (numbers_of L.In.told trail.links)) }
     ensures served { (address auth acct peer port millis : ℕ) → command_of_words words.now ≡ Some (commands.Run (places.Serve address auth acct peer port) millis)
         → (before : List ℕ) → HasRead (C.readings world.clock) before []
         → IfSome result.trail (λ trail. RanServer C.readings D.told L.In.told L.Out.told millis (S.left input.old) (S.left input.new) before

@@ -1,9 +1,6 @@
 -- What the stores keep once a row is dropped.
-use Rattle.std.proofs.Common.{◌≡◌, ◌≢◌, ℕ, zero, suc, ◌+◌, ◌<◌, ◌≤◌, Bool, true, false, nat_lt, ◌&&◌, not, cond, List, [], ◌∷◌, filter, length, slice_get, drop, if◌then◌else◌, refl, ap, sym, subst, ◌∙◌, arith, Option, Some, None, is_some}
+use Rattle.std.proofs.Common.{◌≡◌, ◌≢◌, ℕ, ◌+◌, ◌<◌, ◌≤◌, Bool, true, false, nat_lt, ◌&&◌, not, cond, List, [], ◌∷◌, filter, length, slice_get, drop, if◌then◌else◌, refl, ap, sym, subst, ◌∙◌, arith, Option, Some, None, is_some}
 use Rattle.std.specs.List.{AllByRecursion}
-use Rattle.std.specs.HashMap.{HashMap, get}
-use Rattle.std.specs.BTreeMap.{BTreeMap}
-use Rattle.std.specs.declared.random_state.RandomState.{RandomState}
 use Rattle.pending_table.specs.declared.key.Key.{Key}
 use Rattle.pending_table.specs.declared.stores.Stores.{Stores}
 use Rattle.pending_table.specs.declared.stores.Number.{Number}
@@ -11,7 +8,7 @@ use Rattle.pending_table.specs.declared.stores.Place.{Place}
 use Rattle.pending_table.specs.declared.stores.Place.TheVariants.{Waiting, Settled}
 use Rattle.pending_table.specs.Table.{Row, same_key, is_live as entry_is_live}
 use Rattle.pending_table.specs.Merged.{Held, rows, Pairs}
-use Rattle.pending_table.specs.Stores.{IsKept, CountedFrom, waits, is_live, is_first_dead, same_number, number_of, ends_before}
+use Rattle.pending_table.specs.Stores.{CountedFrom, is_live, is_first_dead, same_number, number_of, ends_before}
 use Rattle.pending_table.specs.KeyLaws.{same_key-equal}
 use Rattle.pending_table.proofs.Hints.{all_both, same_number-equal}
 

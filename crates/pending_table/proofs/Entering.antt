@@ -1,5 +1,5 @@
 -- What the stores keep once a row is put in.
-use Rattle.std.proofs.Common.{◌≡◌, ◌≢◌, ℕ, suc, ◌+◌, ◌<◌, ◌≤◌, Bool, true, false, nat_lt, nat_cmp, ◌==◌, not, cond, List, [], ◌∷◌, ◌++◌, filter, length, if◌then◌else◌, refl, ap, sym, subst, ◌∙◌, arith, Option, Some, None, is_some}
+use Rattle.std.proofs.Common.{◌≡◌, ℕ, suc, ◌+◌, ◌<◌, ◌≤◌, Bool, true, false, nat_lt, nat_cmp, ◌==◌, not, cond, List, [], ◌∷◌, ◌++◌, filter, length, if◌then◌else◌, refl, ap, sym, subst, ◌∙◌, arith, Option, Some, None}
 use Rattle.std.specs.List.{AllByRecursion}
 use Rattle.std.specs.HashMap.{HashMap, get, hash_map_len}
 use Rattle.std.specs.Map.{lookup}
@@ -12,7 +12,7 @@ use Rattle.pending_table.specs.declared.key.Key.{Key}
 use Rattle.pending_table.specs.declared.stores.Stores.{Stores}
 use Rattle.pending_table.specs.declared.stores.Number.{Number}
 use Rattle.pending_table.specs.declared.stores.Place.{Place}
-use Rattle.pending_table.specs.declared.stores.Place.TheVariants.{Waiting, Settled}
+use Rattle.pending_table.specs.declared.stores.Place.TheVariants.{Waiting}
 use Rattle.pending_table.specs.Table.{Row, same_key, is_waiting}
 use Rattle.pending_table.specs.Merged.{Held, rows, Pairs}
 use Rattle.pending_table.specs.KeyLaws.{same_key_equiv}

@@ -1,20 +1,19 @@
 -- The row to which an index leads is the one of its key, or of its number.
-use Rattle.std.proofs.Common.{◌≡◌, ◌≢◌, ℕ, zero, suc, ◌+◌, ◌-◌, ◌<◌, ◌≤◌, ◌⊎◌, inl, inr, Bool, true, false, true≢false, nat_lt, nat_eq, ◌==◌, ◌&&◌, cond, List, [], ◌∷◌, ◌++◌, append_assoc, filter, map, length, slice_get, if◌then◌else◌, refl, ap, sym, subst, ◌∙◌, arith, Option, Some, None, option_map, option_and_then}
+use Rattle.std.proofs.Common.{◌≡◌, ℕ, zero, suc, ◌+◌, ◌-◌, ◌<◌, ◌⊎◌, inl, inr, Bool, true, false, nat_lt, ◌==◌, cond, List, [], ◌∷◌, ◌++◌, append_assoc, filter, length, slice_get, if◌then◌else◌, refl, ap, sym, subst, ◌∙◌, arith, Option, Some, None, option_map, option_and_then}
 use Rattle.std.proofs.lemmas.Bool.{and_parts, eqb-true}
-use Rattle.std.proofs.lemmas.Grind.{common_steps}
 use Rattle.std.specs.List.{AllByRecursion}
 use Rattle.std.specs.Map.{lookup}
 use Rattle.std.specs.BTreeMap.{is_at}
 use Rattle.std.specs.HashMap.{get}
-use Rattle.std.specs.Ordering.{nat_cmp, is_eq}
+use Rattle.std.specs.Ordering.{nat_cmp}
 use Rattle.pending_table.specs.declared.key.Key.{Key}
 use Rattle.pending_table.specs.declared.stores.Stores.{Stores}
 use Rattle.pending_table.specs.declared.stores.Number.{Number}
 use Rattle.pending_table.specs.declared.stores.Place.{Place}
 use Rattle.pending_table.specs.declared.stores.Place.TheVariants.{Waiting, Settled}
-use Rattle.pending_table.specs.Table.{Row, same_key, has_number}
+use Rattle.pending_table.specs.Table.{Row, same_key}
 use Rattle.pending_table.specs.Merged.{Held, put, merged, rows, Pairs}
-use Rattle.pending_table.specs.Stores.{Within, IsOnly, IsKept, IsWhole, CountedFrom, waits, all, passing, by_key, by_number, row_at, waiting_at, settled_at, same_number, number_of}
+use Rattle.pending_table.specs.Stores.{Within, IsOnly, IsKept, IsWhole, CountedFrom, waits, all, passing, by_key, row_at, waiting_at, settled_at, same_number}
 use Rattle.pending_table.specs.KeyLaws.{same_key-equal}
 use Rattle.pending_table.proofs.Merging.{all_merged, all_filter}
 

@@ -1,8 +1,8 @@
 -- The one row of a key, and the one that awaits an answer, are those to which the indexes lead.
-use Rattle.std.proofs.Common.{◌≡◌, ◌≢◌, ℕ, zero, suc, ◌+◌, ◌-◌, ◌<◌, ◌≤◌, ◌⊎◌, inl, inr, Bool, true, false, true≢false, nat_lt, nat_eq, ◌==◌, ◌&&◌, List, [], ◌∷◌, ◌++◌, filter, find, map, length, slice_get, if◌then◌else◌, refl, ap, sym, subst, ◌∙◌, arith, Option, Some, None, option_map, option_and_then}
+use Rattle.std.proofs.Common.{◌≡◌, ℕ, suc, inl, inr, Bool, true, false, true≢false, List, [], ◌∷◌, filter, find, length, if◌then◌else◌, refl, ap, sym, ◌∙◌, arith, Option, Some, None, option_and_then}
 use Rattle.std.specs.List.{AllByRecursion}
 use Rattle.pending_table.specs.Table.{Row}
-use Rattle.pending_table.specs.Merged.{Held, put, merged, rows, Pairs}
+use Rattle.pending_table.specs.Merged.{Held, rows, Pairs}
 use Rattle.pending_table.specs.declared.stores.Stores.{Stores}
 use Rattle.pending_table.specs.Stores.{Within, IsOnly, is_live, ends_before}
 

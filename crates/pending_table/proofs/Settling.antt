@@ -1,6 +1,6 @@
 -- What the stores keep once a row that waited is settled.
-use Rattle.std.proofs.Common.{◌≡◌, ◌≢◌, ℕ, suc, ◌+◌, ◌<◌, ◌≤◌, Bool, true, false, true≢false, nat_lt, nat_cmp, ◌==◌, ◌&&◌, not, cond, List, [], ◌∷◌, ◌++◌, filter, length, if◌then◌else◌, refl, ap, sym, subst, ◌∙◌, arith, Option, Some, None, IsSome, is_some, option_and_then}
-use Rattle.std.proofs.lemmas.Bool.{and_parts, eqb-true}
+use Rattle.std.proofs.Common.{◌≡◌, ◌≢◌, ℕ, ◌+◌, ◌<◌, ◌≤◌, Bool, true, false, true≢false, nat_lt, nat_cmp, ◌==◌, ◌&&◌, cond, List, [], ◌∷◌, ◌++◌, filter, length, if◌then◌else◌, refl, ap, sym, subst, ◌∙◌, arith, Option, Some, None, IsSome, is_some, option_and_then}
+use Rattle.std.proofs.lemmas.Bool.{eqb-true}
 use Rattle.std.specs.List.{AllByRecursion}
 use Rattle.std.specs.HashMap.{HashMap, get, hash_map_len}
 use Rattle.std.specs.Map.{lookup, remove_entry}
@@ -24,7 +24,7 @@ use Rattle.pending_table.specs.Stores.{IsKept, IsWhole, CountedFrom, waits, all,
 use Rattle.pending_table.proofs.Merging.{all_weaker, filter_all, update_first-rows, changed_first-merged, merged-end}
 use Rattle.pending_table.proofs.Hints.{all_both, same_number-equal}
 use Rattle.pending_table.proofs.Dropping.{keeps-other}
-use Rattle.pending_table.proofs.Entering.{whole-below, all_last, pairs_last, rows-last, length-last, all_of_rows, same_number-symm}
+use Rattle.pending_table.proofs.Entering.{whole-below, all_last, pairs_last, rows-last, length-last}
 
 -- a list with an element in its middle
 

@@ -1,5 +1,5 @@
 -- Internal: the two stores of the body, as the one list that contracts see: those that wait and those that were settled, each with a serial number.
-use Rattle.std.specs.Prelude.{◌≡◌, ℕ, ◌+◌, ◌<◌, ◌≤◌, Bool, nat_lt, List, [], ◌∷◌, map, if◌then◌else◌, ⊤}
+use Rattle.std.specs.Prelude.{ℕ, ◌+◌, ◌≤◌, Bool, nat_lt, List, [], ◌∷◌, map, if◌then◌else◌, ⊤}
 use Rattle.std.specs.List.{AllByRecursion}
 use Rattle.pending_table.specs.declared.entry.Entry.{Entry}
 use Rattle.pending_table.specs.Table.{Row}

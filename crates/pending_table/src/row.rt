@@ -4,18 +4,17 @@ ghost use Rattle.std.specs.Prelude.{◌≡◌, IfOk};
 ghost use Rattle.pending_table.specs.Relinked.{with_number};
 ghost use Rattle.pending_table.specs.Stores.{number_of};
 
-use crate::key::SharedKey;
 use crate::stores::Number;
 use crate::{Answer, Entry, Key};
 use std::alloc::Global;
 use std::marker::Model;
 use std::mem;
-use wire_core::NoMemory;
+use wire_core::{NoMemory, SharedKey};
 
 /// An entry beside its key. Both are on the heap, so that a row that goes from one store to another isn't copied.
 #[derive(Drop)]
 pub(crate) struct Row {
-    parts: Box<(SharedKey, Entry), Global>,
+    parts: Box<(SharedKey<'static, Key>, Entry), Global>,
 }
 
 impl Model for Row {
@@ -28,24 +27,29 @@ impl Model for Row {
 }
 
 impl Row {
-    pub(crate) fn new(alloc: Global, key: SharedKey, entry: Entry) -> Result<Row, NoMemory>
-        ensures { IfOk result (λ r. r ≡ (key, entry)) }
+    pub(crate) fn new(
+        alloc: Global,
+        key: SharedKey<'static, Key>,
+        entry: Entry,
+    ) -> Result<Row, NoMemory>
+        ensures { IfOk result (λ r. r ≡ (key.entry, entry)) }
     {
         Ok(Row {
             parts: Box::new(alloc, (key, entry))?,
         })
     }
 
-    fn parts(&self) -> &(SharedKey, Entry)
+    fn parts(&self) -> &(SharedKey<'static, Key>, Entry)
         ensures { result.now ≡ self.now }
     {
         &self.parts
     }
 
-    pub(crate) fn key(&self) -> &Key
+    /// Its key, as the index has it.
+    pub(crate) fn key(&self) -> &SharedKey<'static, Key>
         ensures { result.now ≡ self.now.0 }
     {
-        self.parts().0.get()
+        &self.parts().0
     }
 
     pub(crate) fn entry(&self) -> &Entry

@@ -10,7 +10,6 @@ ghost use Rattle.pending_table.specs.Relinked.{with_number, HasOtherNumber, Lead
 ghost use Rattle.pending_table.specs.Stores.{row_at, settled_at, waiting_at, by_key, by_number, same_number, is_live, ends_before, is_first_dead, waits, all, drafts, IsKept, IsWhole, KeepsRest, HasSameRows, HasSameIndexes, HasSameTimes, HasSameList, HasRoom, IsPrepared, IsDraft, CanJoin, KeepsSettled};
 
 use crate::garbage::Garbage;
-use crate::key::SharedKey;
 use crate::row::Row;
 use crate::{Answer, Entry, Key};
 use indexmap::IndexMap;
@@ -18,7 +17,7 @@ use std::alloc::Global;
 use std::collections::btree_map::Values;
 use std::collections::{BTreeMap, VecDeque};
 use std::hash::RandomState;
-use wire_core::NoMemory;
+use wire_core::{NoMemory, SharedKey};
 
 /// Where the row of a key stands: among those that wait, by its serial number, or among the settled ones, by how many were settled
 /// before it.
@@ -39,7 +38,7 @@ pub(crate) struct Number {
 #[derive(Drop)]
 pub(crate) struct Stores {
     pub(crate) alloc: Global,
-    pub(crate) keys: IndexMap<SharedKey, Place, RandomState>,
+    pub(crate) keys: IndexMap<SharedKey<'static, Key>, Place, RandomState>,
     pub(crate) numbers: IndexMap<Number, u64, RandomState>,
     pub(crate) waiting: BTreeMap<u64, Row>,
     pub(crate) settled: VecDeque<(u64, Row)>,
@@ -107,10 +106,8 @@ impl Stores {
     fn hinted_by_key(&self, key: &Key) -> Option<&Row>
         ensures { option_copied result ≡ option_and_then (row_at self.now) (get parts.same_key self.now.keys key.now) }
     {
-        match self.keys.get(key) {
-            None => None,
-            Some(place) => self.at(*place),
-        }
+        let place = self.keys.get(&SharedKey::lent(key)).copied()?;
+        self.at(place)
     }
 
     /// The row of this key.
@@ -118,7 +115,7 @@ impl Stores {
         ensures { option_copied result ≡ by_key self.now key.now }
     {
         match self.hinted_by_key(key) {
-            Some(row) if *row.key() == *key => Some(row),
+            Some(row) if *row.key().get() == *key => Some(row),
             _ => None,
         }
     }
@@ -354,7 +351,7 @@ impl Stores {
     }
 
     /// Puts the draft among the rows that wait.
-    fn enter(&mut self, key: SharedKey, number: Number)
+    fn enter(&mut self, key: SharedKey<'static, Key>, number: Number)
         requires kept { IsKept self.old }
         requires draft { IsDraft self.old key number }
         requires room { HasRoom self.old }
@@ -366,8 +363,8 @@ impl Stores {
     {
         let place = Place::Waiting { serial: self.next };
         // There is room for both, so neither is refused.
-        let _ = self.keys.insert(key, place);
         let _ = self.numbers.insert(number, self.next);
+        let _ = self.keys.insert(key, place);
         self.next += 1;
     }
 

@@ -180,11 +180,12 @@ impl Table {
         self.stores.relink(link, moment);
     }
 
-    /// Drops the dead entries.
+    /// Drops the dead entries, at the end of a step.
     pub fn purge(&mut self, moment: u64)
         ensures { self.new ≡ record self.old { entries = parts.live self.old moment } }
     {
         self.stores.purge_waiting(moment);
         self.stores.purge_settled(moment, &mut self.garbage);
+        self.garbage.pass();
     }
 }

@@ -21,16 +21,22 @@ abbrev pub keys_name : Bool → List ℕ
 keys_name omit_keys = if omit_keys then codes "omit" else codes "refuse"
 
 -- agent HOST REALM HOME ADDRESS BOOT RETENTION CAPACITY BACKLOG WATCHDOG PATIENCE, with boot 0 where it isn't set
-abbrev pub agent_text : Config → List ℕ
-agent_text config = line_text (codes "agent" ∷ config.host ∷ config.realm ∷ config.home_realm ∷ address_text config.address
+abbrev pub agent_words : Config → List (List ℕ)
+agent_words config = codes "agent" ∷ config.host ∷ config.realm ∷ config.home_realm ∷ address_text config.address
     ∷ decimal (unwrap_or config.boot 0) ∷ decimal config.retention ∷ decimal config.capacity ∷ decimal config.backlog
-    ∷ decimal config.watchdog ∷ decimal config.patience ∷ [])
+    ∷ decimal config.watchdog ∷ decimal config.patience ∷ []
+
+abbrev pub agent_text : Config → List ℕ
+agent_text config = line_text (agent_words config)
 
 -- client NAME ADDRESS SECRET OHOST OREALM SEAL KEYS NAS
-abbrev pub client_text : Client → List ℕ
-client_text client = line_text (codes "client" ∷ client.name ∷ address_text client.address ∷ hex_text client.secret
+abbrev pub client_words : Client → List (List ℕ)
+client_words client = codes "client" ∷ client.name ∷ address_text client.address ∷ hex_text client.secret
     ∷ client.origin_host ∷ client.origin_realm ∷ seal_name client.require_seal ∷ keys_name client.omit_keys
-    ∷ addresses_text client.nas ∷ [])
+    ∷ addresses_text client.nas ∷ []
+
+abbrev pub client_text : Client → List ℕ
+client_text client = line_text (client_words client)
 
 -- the agent line, and then a line for each client
 abbrev pub settings_text : Config → List ℕ

@@ -1,6 +1,7 @@
 pub mod Cuts
 pub mod GeneratorLaws
 pub mod Measured
+pub mod Recorded
 pub mod Replay
 pub mod Run
 pub mod Session

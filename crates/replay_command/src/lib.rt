@@ -7,7 +7,7 @@ mod replaying;
 mod session;
 mod wanted;
 
-pub use laws::{generated_lines_are_sound, link_lines_can_be_cut};
+pub use laws::{generated_lines_are_sound, link_lines_can_be_cut, records_are_replayed};
 pub use measuring::measure;
 pub use replaying::{Replaying, replay, start_replay};
 pub use wanted::wanted_in_transcript;

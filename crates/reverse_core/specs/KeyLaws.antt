@@ -1,4 +1,4 @@
--- Internal: keys whose two parts are equal are the same, so the test is an equivalence.
+-- Keys whose two parts are equal are the same, so the test is an equivalence.
 use Rattle.std.proofs.Common.{◌≡◌, ℕ, Bool, true, false, nat_eq, ◌==◌, List, refl, ap, sym, ◌∙◌, arith}
 use Rattle.std.proofs.lemmas.Bool.{and_parts, eqb-true}
 use Rattle.std.specs.Cmp.{IsEquivalence}

@@ -64,8 +64,8 @@ pub record IsSaid (own : Reverse) (ps : List ReversePlace) (p : ReversePlace) : 
   pub is_first : IsFirst own p.input p.deed first
   pub outputs : p.outputs ≡ first ++ flat_map (said_at own ps p) (takings (p ∷ ps))
 
-abbrev pub Said : Type 0
-Said = (own : Reverse) (history : List ReverseEvent) (e : ReverseEvent) → IsSaid own (past own history) (place own (past own history) e)
+abbrev pub OutputsAreSaid : Type 0
+OutputsAreSaid = (own : Reverse) (history : List ReverseEvent) (e : ReverseEvent) → IsSaid own (past own history) (place own (past own history) e)
 
 -- ---- the packets of a request
 
@@ -78,8 +78,8 @@ is_send (Dropped reason) = false
 abbrev pub IsLimited : Reverse → List ReversePlace → Taken → Type 0
 IsLimited own ps t = count_by is_send (said_so_far own t ps) ≤ 3
 
-abbrev pub Limited : Type 0
-Limited = (own : Reverse) (history : List ReverseEvent) → Each (IsLimited own (past own history)) (takings (past own history))
+abbrev pub RequestsAreLimited : Type 0
+RequestsAreLimited = (own : Reverse) (history : List ReverseEvent) → Each (IsLimited own (past own history)) (takings (past own history))
 
 -- each time with the same octets
 abbrev pub IsOfIts : Taken → ReverseOutput → Type 0
@@ -87,8 +87,8 @@ IsOfIts t (Send octets) = octets ≡ t.sent
 IsOfIts t (Answer octets) = Unit {0}
 IsOfIts t (Dropped reason) = Unit {0}
 
-abbrev pub Same : Type 0
-Same = (own : Reverse) (history : List ReverseEvent)
+abbrev pub PacketsAreTheSame : Type 0
+PacketsAreTheSame = (own : Reverse) (history : List ReverseEvent)
     → Each (λ t. Each (IsOfIts t) (said_so_far own t (past own history))) (takings (past own history))
 
 -- which are those that the request becomes, with the identifier of its number
@@ -104,8 +104,8 @@ IsOfInput own ps (inputs.Request octets random) t = IsImage own ps octets random
 IsOfInput own ps (inputs.Reply octets) t = ⊥
 IsOfInput own ps inputs.Tick t = ⊥
 
-abbrev pub Images : Type 0
-Images = (own : Reverse) (history : List ReverseEvent) (e : ReverseEvent) (t : Taken)
+abbrev pub PacketsAreImages : Type 0
+PacketsAreImages = (own : Reverse) (history : List ReverseEvent) (e : ReverseEvent) (t : Taken)
     → (place own (past own history) e).deed ≡ Takes t → IsOfInput own (past own history) e.input t
 
 -- ---- the answers of a request
@@ -119,8 +119,8 @@ pub record DifferInHop (a b : List ℕ) : Type 0 where
 abbrev pub AreAlike : List ReverseOutput → Type 0
 AreAlike os = (a b : List ℕ) → Contains os (Answer a) → Contains os (Answer b) → DifferInHop a b
 
-abbrev pub Alike : Type 0
-Alike = (own : Reverse) (history : List ReverseEvent) → Each (λ t. AreAlike (said_so_far own t (past own history))) (takings (past own history))
+abbrev pub AnswersDifferInTheHop : Type 0
+AnswersDifferInTheHop = (own : Reverse) (history : List ReverseEvent) → Each (λ t. AreAlike (said_so_far own t (past own history))) (takings (past own history))
 
 -- ---- keys
 
@@ -129,6 +129,6 @@ pub record IsFree (own : Reverse) (ps : List ReversePlace) (p : ReversePlace) (t
   pub open_none : list_any (λ o. same_key o.taken.key t.key) (open_requests ps) ≡ false
   pub kept_none : list_any (λ k. same_key k.key t.key) (kept_answers own ps p.moment) ≡ false
 
-abbrev pub Apart : Type 0
-Apart = (own : Reverse) (history : List ReverseEvent) (e : ReverseEvent) (t : Taken)
+abbrev pub KeysAreApart : Type 0
+KeysAreApart = (own : Reverse) (history : List ReverseEvent) (e : ReverseEvent) (t : Taken)
     → (place own (past own history) e).deed ≡ Takes t → IsFree own (past own history) (place own (past own history) e) t

@@ -11,13 +11,14 @@ ghost use Rattle.reverse_core.specs.declared.events.ReverseOutput.TheVariants.{A
 ghost use Rattle.reverse_core.specs.declared.considering.Considered.TheVariants.{Says, Takes};
 ghost use Rattle.reverse_core.specs.Considering.{found_view, known_by, Considers};
 ghost use Rattle.reverse_core.specs.History as history;
+ghost use Rattle.indexmap.specs.IndexMap.{get};
 ghost use Rattle.reverse_core.specs.Keys as keys;
 ghost use Rattle.reverse_core.specs.State.{state_of, kept_in, IsSound};
 ghost use Rattle.reverse_core.specs.Windows.{kept_at};
 
 use crate::events::{ReverseOutput, ReverseReason};
 use crate::kept_answers::MOST;
-use crate::key::{Key, SharedKey};
+use crate::key::Key;
 use crate::ledger::{Ledger, Standing};
 use crate::reading::{is_served, key_of};
 use crate::requests::{KeptAnswer, Taken};
@@ -25,7 +26,7 @@ use crate::values::{AskingRequest, Headed};
 use diameter_message::{Message, parse};
 use reverse_map::{ReverseFault, packet, refuse};
 use std::alloc::Global;
-use wire_core::{NoMemory, Octets};
+use wire_core::{NoMemory, Octets, SharedKey};
 
 /// Result-Codes (RFC 6733, section 7.1).
 const TOO_BUSY: u32 = 3004;
@@ -89,15 +90,22 @@ impl Ledger {
         }
     }
 
+    /// Where the request of a key stands.
+    fn standing(&self, key: &Key) -> Option<Standing>
+        ensures { result ≡ get keys.same_key self.now.index key.now }
+    {
+        self.index.get(&SharedKey::lent(key)).copied()
+    }
+
     /// What is known of a key.
     fn found(&self, key: &Key, moment: u64) -> Found<'_>
         requires { IsSound self.now }
         ensures { found_view result ≡ history.known key.now self.now.open_ones.list (kept_in (state_of self.now) moment) }
     {
-        match self.index.get(key) {
+        match self.standing(key) {
             None => Found::Unknown,
             Some(Standing::Open) => Found::Open,
-            Some(Standing::Kept { count }) => self.found_kept(*count, moment),
+            Some(Standing::Kept { count }) => self.found_kept(count, moment),
         }
     }
 

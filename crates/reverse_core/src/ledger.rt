@@ -12,7 +12,7 @@ ghost use Rattle.reverse_core.specs.State.{state_of, kept_in, Does, IsSound, May
 
 use crate::events::{ReverseOutput, ReverseOutputs};
 use crate::kept_answers::{KeptAnswers, MOST};
-use crate::key::SharedKey;
+use crate::key::Key;
 use crate::open_requests::OpenRequests;
 use crate::requests::{KeptAnswer, Taken};
 use crate::values::Headed;
@@ -20,7 +20,7 @@ use indexmap::IndexMap;
 use reverse_map::Reverse;
 use std::alloc::Global;
 use std::hash::{BuildHasherDefault, FoldHasher};
-use wire_core::{NoMemory, Octets};
+use wire_core::{NoMemory, Octets, SharedKey};
 
 /// Where the request of a key stands: among the open ones, or among the kept answers, by how many were given before it.
 #[derive(Clone, Copy)]
@@ -29,7 +29,7 @@ pub enum Standing {
     Kept { count: u64 },
 }
 
-pub(crate) type Index = IndexMap<SharedKey, Standing, BuildHasherDefault<FoldHasher>>;
+pub(crate) type Index = IndexMap<SharedKey<'static, Key>, Standing, BuildHasherDefault<FoldHasher>>;
 
 /// What is kept of the inputs so far.
 #[derive(Drop)]
@@ -67,7 +67,7 @@ pub(crate) fn keep(
     ensures kept { kept.new ≡ record { dropped = kept.old.dropped; list = kept.old.list ++ kept_answer taken moment answer ∷ [] } }
 {
     let count = kept.given();
-    if let Some(standing) = index.get_mut(taken.key.get()) {
+    if let Some(standing) = index.get_mut(&taken.key) {
         *standing = Standing::Kept { count };
     }
     kept.push(KeptAnswer {
@@ -109,12 +109,12 @@ impl Ledger {
     {
         let retention = self.own.retention;
         while let Some(past) = self.kept.pop_past(retention, moment) {
-            self.index.swap_remove(past.key.get());
+            self.index.swap_remove(&past.key);
         }
     }
 
     /// Puts in a request that is taken up, for which there is room.
-    fn enter(&mut self, key: SharedKey, taken: Taken, moment: u64)
+    fn enter(&mut self, key: SharedKey<'static, Key>, taken: Taken, moment: u64)
         requires sound { IsSound self.old }
         requires key { key ≡ taken.key }
         requires may { MayTake self.old.open_ones.list self.old.kept.list self.old.open_ones.next taken }
@@ -128,10 +128,10 @@ impl Ledger {
         ensures kept { self.new.kept ≡ self.old.kept }
         ensures moment { self.new.moment ≡ moment }
     {
-        // There is room for it, so it is not refused.
-        let _ = self.index.insert(key, Standing::Open);
         self.open_ones.push(taken, moment);
         self.moment = moment;
+        // There is room for it, so it is not refused.
+        let _ = self.index.insert(key, Standing::Open);
     }
 
     /// Takes up a request.

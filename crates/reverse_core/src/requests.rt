@@ -3,8 +3,9 @@
 ghost use Rattle.std.specs.Prelude.{◌≡◌, nat_lt, ◌+◌, ◌==◌, ◌%◌};
 ghost use Rattle.reverse_core.specs.Requests as specs;
 
-use crate::key::SharedKey;
+use crate::key::Key;
 use crate::values::{AskingRequest, Headed};
+use wire_core::SharedKey;
 
 /// How often a packet is sent, at most (profile).
 const MOST_TIMES: u8 = 3;
@@ -17,7 +18,7 @@ const PAUSE: u64 = 2_000;
 pub struct Taken {
     /// How many were taken up before it. Modulo 256 it is the packet's identifier.
     pub number: u64,
-    pub key: SharedKey,
+    pub key: SharedKey<'static, Key>,
     /// As it came.
     pub request: AskingRequest,
     /// The packet that it became.
@@ -92,7 +93,7 @@ impl OpenRequest {
 pub struct KeptAnswer {
     /// The request's number.
     pub number: u64,
-    pub key: SharedKey,
+    pub key: SharedKey<'static, Key>,
     /// When it was given, in milliseconds.
     pub at: u64,
     pub answer: Headed,

@@ -2,6 +2,7 @@ pub mod DialLemmas
 pub mod EntryLemmas
 pub mod GoingLemmas
 pub mod GrowthLemmas
+pub mod LeaveLemmas
 pub mod LinkOverLemmas
 pub mod LinkReadingLemmas
 pub mod LinkTurnLemmas

@@ -1,6 +1,6 @@
 -- What is known when a link is over.
-use Rattle.std.proofs.Common.{◌≡◌, ℕ, ◌+◌, ◌-◌, ◌^◌, min, Bool, true, false, not, ◌&&◌, if◌then◌else◌, List, [], ◌∷◌, ◌++◌, length, All, Option, Some, None, refl, sym, ap, ◌∙◌, subst, append_assoc, length-append, vec_capacity, inl, arith}
-use Rattle.std.proofs.lemmas.List.{append_cancel_left}
+use Rattle.std.proofs.Common.{◌≡◌, ℕ, ◌+◌, ◌-◌, ◌^◌, ◌⊎◌, min, Bool, true, false, not, ◌&&◌, if◌then◌else◌, List, [], ◌∷◌, ◌++◌, length, All, Option, Some, None, refl, sym, ap, ◌∙◌, subst, append_assoc, length-append, vec_capacity, inl, inr, arith}
+use Rattle.std.proofs.lemmas.List.{append_cancel_left, length-map, map-append}
 use Rattle.std.proofs.lemmas.List.Elements.{All-head, All-push, All-tail}
 use Rattle.std.proofs.lemmas.Grind.{flat_map-append}
 use Rattle.atomic_table.specs.Seated.{TableId}
@@ -29,7 +29,7 @@ use Rattle.server_workers.specs.Entries.{EachEntry, RunTurn, entry_replies, is_t
 use Rattle.server_workers.specs.Going.{Went}
 use Rattle.server_workers.specs.LinkReading.{EndsAt, ServedLink}
 use Rattle.server_workers.specs.LinkWriting.{IsWriterAsk, KeepsWriting, LastTurns, TakesLeave, Wrote, WroteLink, round}
-use Rattle.server_workers.specs.Running.{ClosedFor, EndsLink, LastDrain, LeftAtEnd, NoLeave, Over, ReaderRan, StartedAs}
+use Rattle.server_workers.specs.Running.{ClosedFor, EndsLink, InOrder, Keeps, LastDrain, LeftAtEnd, NoLeave, Over, ReaderRan, StartedAs, counted, number_in, numbers_of, ports_in, ports_of}
 use Rattle.agent_events.specs.Kinds.{is_leave}
 use Rattle.server_workers.specs.Serving.{AllBut, MayWrite, Span, Spans, WasRead}
 use Rattle.server_workers.specs.Serving.Spans.{no_more, one_more}
@@ -340,3 +340,48 @@ module _ {I O : Type 0} (hears : I → Inlet) (speaks : O → Outlet) where
             room = omega (arith, room, started.tally.room);
           };
         }
+
+-- ---- where the twins are
+
+pub same-ports : {A B : Type 0} {a b : A} {c d : B} → a ≡ b → c ≡ d → ◌≡◌ {A = A × B} (a, c) (b, d)
+same-ports {A} {B} {a} {b} {c} {d} one two = ap (λ (x : A). (x, c)) one ∙ ap (λ (y : B). (b, y)) two
+
+pub ran-ports : {T D I : Type 0} (told : D → Socket) (hears : I → Inlet) (helper : Worker T D I) (back : ReaderBack T D I) → ReaderRan told hears helper back
+    → ports_of told back.twins ≡ ports_in told helper
+ran-ports {T} {D} {I} told hears (worker.Link alloc shared pass link auth acct) back (table, read) = same-ports read.ports.0 read.ports.1
+ran-ports {T} {D} {I} told hears (worker.Reader alloc shared pass via socket) back ran = absurd ran
+
+-- ---- in which order links were made
+
+pub ran-number : {T D I : Type 0} (told : D → Socket) (hears : I → Inlet) (helper : Worker T D I) (back : ReaderBack T D I) → ReaderRan told hears helper back
+    → (hears back.link_in).number ≡ number_in hears helper
+ran-number {T} {D} {I} told hears (worker.Link alloc shared pass link auth acct) back (table, read) = read.served.reads.number
+ran-number {T} {D} {I} told hears (worker.Reader alloc shared pass via socket) back ran = absurd ran
+
+-- a link more is over
+pub numbers-push : {I O : Type 0} (hears : I → Inlet) (pairs pairs' : List (Pair I O)) (pair : Pair I O) (x : Option ℕ) → pairs' ≡ pairs ++ pair ∷ [] → (hears pair.link_in).number ≡ x
+    → numbers_of hears pairs' ≡ numbers_of hears pairs ++ x ∷ []
+numbers-push {I} {O} hears pairs pairs' pair x is same =
+    ap (numbers_of hears) is ∙ map-append (λ (p : Pair I O). (hears p.link_in).number) pairs (pair ∷ [])
+    ∙ ap (λ (y : Option ℕ). numbers_of hears pairs ++ y ∷ []) same
+
+order-push : (n : ℕ) (xs : List (Option ℕ)) (x : Option ℕ) → InOrder n xs → TellsOnly x (counted n (length xs)) → InOrder n (xs ++ x ∷ [])
+order-push n [] x ordered last = (λ y is. omega (arith, last y is), tt)
+order-push n (y ∷ xs) x (first, ordered) last = (first, order-push (counted n 1) xs x ordered (λ z is. omega (arith, last z is)))
+
+-- what comes next is in order, where so many links were made before: one that goes on
+pub order-go : (n made : ℕ) (before now : List (Option ℕ)) (x : Option ℕ) → InOrder n before → made ≡ counted n (length before) → (now ≡ before) × TellsOnly x made → InOrder n (now ++ x ∷ [])
+order-go n made before now x ordered is (same, next_is) =
+    order-push n now x (subst (InOrder n) (sym same) ordered) (λ y told. next_is y told ∙ is ∙ ap (λ (xs : List (Option ℕ)). counted n (length xs)) (sym same))
+
+-- or none, or one that is over at once
+pub order-stop : (n made : ℕ) (before now : List (Option ℕ)) → InOrder n before → made ≡ counted n (length before)
+    → (now ≡ before) ⊎ ((x : Option ℕ) × (now ≡ before ++ x ∷ []) × TellsOnly x made) → InOrder n now
+order-stop n made before now ordered is (inl same) = subst (InOrder n) (sym same) ordered
+order-stop n made before now ordered is (inr (x, same, last)) = subst (InOrder n) (sym same) (order-push n before x ordered (λ y told. last y told ∙ is))
+
+-- so many were made
+pub made-so-far : {I O : Type 0} (hears : I → Inlet) (pairs : List (Pair I O)) (x : Option ℕ) (links made now n : ℕ) → Keeps links (length pairs) made now → made ≡ counted n (links + 1)
+    → now ≡ counted n (length (numbers_of hears pairs ++ x ∷ []))
+made-so-far {I} {O} hears pairs x links made now n kept is =
+    omega (arith, kept.links_are, kept.made_is, is, length-push (numbers_of hears pairs) x, length-map pairs (λ (p : Pair I O). (hears p.link_in).number))

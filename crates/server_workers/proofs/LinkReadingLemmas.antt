@@ -181,11 +181,13 @@ module _ {T D : Type 0} (told : D → Socket) (start : Sight T) (visitor : Visit
             down = λ some_down. omega (arith, same, reads.down some_down);
             ended = λ over. reads.ended (omega (arith, same, over));
             asks = reads.asks;
+            number = brought.number ∙ reads.number;
           };
           lost_is = did.lost_is;
           again_is = did.again_is;
           auth = did.auth;
           acct = did.acct;
+          ports = did.ports;
         };
       }
 
@@ -218,11 +220,13 @@ rests-fresh told visitor link framer is stands lost again ends faults =
           down = λ some. absurd (omega (arith, some));
           ended = λ over. absurd (omega (arith, over, ends, faults));
           asks = All-nil LinkMayTake;
+          number = refl;
         };
         lost_is = omega (arith, lost);
         again_is = omega (arith, again);
         auth = Adds-none start.auth.handed;
         acct = Adds-none start.acct.handed;
+        ports = (refl, refl);
       });
     }
 
@@ -385,13 +389,14 @@ module _ {T D : Type 0} (told : D → Socket) (start : Sight T) (old new : Visit
         stays = λ was. omega (arith, same, was);
         rises = λ is. inl (omega (arith, same, is));
         may = tt;
+        number = heard.number;
       }) r v
 
   -- the link is over
-  rests-down : (link link' : Inlet) (framer : FramerParts) (over : Bool) → Adds link.received link'.received [] → link'.idle ≡ link.idle → HasEnded link'
+  rests-down : (link link' : Inlet) (framer : FramerParts) (over : Bool) → Adds link.received link'.received [] → link'.idle ≡ link.idle → link'.number ≡ link.number → HasEnded link'
       → HeededAll told start old link framer → Visits told Down over old new
       → MatchBool over (Stops told start new link' framer) (HeededAll told start new link' framer)
-  rests-down link link' framer over received idle is r v =
+  rests-down link link' framer over received idle number is r v =
       rests-visit link link' framer Down 0 over refl (record {
         received = received;
         idle = adds_some-same link.idle link'.idle idle;
@@ -401,17 +406,18 @@ module _ {T D : Type 0} (told : D → Socket) (start : Sight T) (old new : Visit
         stays = λ _. is;
         rises = λ _. inr refl;
         may = tt;
+        number = number;
       }) r v
 
   pub rests-ended : (link link' : Inlet) (framer : FramerParts) (over : Bool) → HeardTheEnd link link'
       → HeededAll told start old link framer → Visits told Down over old new
       → MatchBool over (Stops told start new link' framer) (HeededAll told start new link' framer)
-  rests-ended link link' framer over heard r v = rests-down link link' framer over (Adds-same heard.received) heard.idle (omega (arith, heard.ends)) r v
+  rests-ended link link' framer over heard r v = rests-down link link' framer over (Adds-same heard.received) heard.idle heard.number (omega (arith, heard.ends)) r v
 
   pub rests-failed : (link link' : Inlet) (framer : FramerParts) (over : Bool) → FailedToHear link link'
       → HeededAll told start old link framer → Visits told Down over old new
       → MatchBool over (Stops told start new link' framer) (HeededAll told start new link' framer)
-  rests-failed link link' framer over heard r v = rests-down link link' framer over (Adds-same heard.received) heard.idle (omega (arith, heard.faults)) r v
+  rests-failed link link' framer over heard r v = rests-down link link' framer over (Adds-same heard.received) heard.idle heard.number (omega (arith, heard.faults)) r v
 
   -- no octet is an end
   pub rests-empty : (count : ℕ) (buf : List ℕ) (link link' : Inlet) (framer : FramerParts) (over : Bool) → count ≡ 0 → Brought count link link' buf
@@ -420,7 +426,7 @@ module _ {T D : Type 0} (told : D → Socket) (start : Sight T) (old new : Visit
   rests-empty count buf link link' framer over is_zero brought r v =
       let risen = brought.ends.rises is_zero in
       rests-down link link' framer over (subst (λ (n : ℕ). Adds link.received link'.received (take n buf)) is_zero brought.received)
-      brought.idle (omega (arith, risen)) r v
+      brought.idle brought.number (omega (arith, risen)) r v
 
 -- ---- the whole run
 
@@ -460,6 +466,7 @@ module _ {T D : Type 0} (told : D → Socket) (start : Sight T) (visitor : Visit
         again_is = s.did.again_is;
         auth = s.did.auth;
         acct = s.did.acct;
+        ports = s.did.ports;
       }
 
   by-shown : (shown : Option FrameFault) → framer.shown ≡ shown → ReadsLink start (sight_of told visitor link) visitor.lost visitor.again

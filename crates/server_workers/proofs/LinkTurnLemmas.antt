@@ -119,6 +119,7 @@ pub record Beside (ask : Input) (looks retries : ℕ) (link link' : Inlet) : Typ
   pub stays : HasEnded link → HasEnded link'
   pub rises : HasEnded link' → HasEnded link ⊎ (is_down ask ≡ true)
   pub may : LinkMayAsk ask
+  pub number : link'.number ≡ link.number
 
 -- the link didn't change
 pub beside-same : (ask : Input) (retries : ℕ) (link : Inlet) → number (is_tick ask) ≡ retries → is_down ask ≡ false → LinkMayAsk ask
@@ -132,6 +133,7 @@ beside-same ask retries link counts up may = record {
   stays = λ over. over;
   rises = λ over. inl over;
   may = may;
+  number = refl;
 }
 
 either-weaker : (a b a' b' : ℕ) → (0 < a) ⊎ (0 < b) → a ≤ a' → b ≤ b' → (0 < a') ⊎ (0 < b')
@@ -166,6 +168,7 @@ reads-turn mine got heeded start link link' out again looks retries ask heard re
       down = λ some. is-over (some-of (downs mine) (downs (turn ∷ [])) (omega (arith, some, down_count)));
       ended = λ over. ended-by (beside.rises over);
       asks = All-push LinkMayTake mine turn reads.asks (add.may beside.may);
+      number = beside.number ∙ reads.number;
     }
   where
     is-over : (0 < downs mine) ⊎ (0 < downs (turn_of ask heard ∷ [])) → HasEnded link'
@@ -202,6 +205,7 @@ module _ {T D : Type 0} (told : D → Socket) where
             (sym (flat_map-append (entry_replies (reply_by Auth)) mine (turn ∷ []))) (Adds-append did.auth v.auth);
         acct = subst (λ (xs : List Datagram). Adds start.acct.handed (told new.acct_twin).handed xs)
             (sym (flat_map-append (entry_replies (reply_by Acct)) mine (turn ∷ []))) (Adds-append did.acct v.acct);
+        ports = (v.ports.0 ∙ did.ports.0, v.ports.1 ∙ did.ports.1);
       }
     where
       lost-on : (b : Bool) (out lost lost' : ℕ) → lost ≡ min out (2 ^ 64 - 1) → lost' ≡ (if b then one_more lost else lost)

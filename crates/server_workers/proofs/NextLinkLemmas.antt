@@ -29,7 +29,7 @@ use Rattle.server_workers.specs.declared.running.RunEnd.{RunEnd}
 use Rattle.server_workers.specs.declared.running.RunEnd.TheVariants as run
 use Rattle.server_workers.specs.declared.running.Twins.{Twins}
 use Rattle.server_workers.specs.declared.links.Pair.{Pair}
-use Rattle.server_workers.specs.Entries.{EachEntry, EndsWith, RunTurn, downs, handed_at, is_down, is_entry_of, is_final, is_tick, octets_in, replies_by, sends, ticks, turn_of}
+use Rattle.server_workers.specs.Entries.{AreBlank, AsksLeave, EachEntry, EndsWith, HasLeave, RunTurn, downs, handed_at, is_down, is_entry_of, is_final, is_tick, octets_in, replies_by, sends, ticks}
 use Rattle.server_workers.specs.Going.{SeenLast, Went}
 use Rattle.server_workers.specs.LinkReading.{LinkMayTake}
 use Rattle.server_workers.specs.LinkWriting.{Wrote}
@@ -41,6 +41,7 @@ use Rattle.server_workers.specs.Segments.{IsClosed, ServerTurn, flat, is_beginni
 use Rattle.server_workers.proofs.DialLemmas.{each-append}
 use Rattle.server_workers.proofs.GoingLemmas.{went-on}
 use Rattle.server_workers.proofs.GrowthLemmas.{MayFollow, all-grow, all_but-grow, all_but-of, closed-grow, closed_for-grow, ends-grow, first-all, first-grow, first-push, grow, length-grow, others-follow, read-grow, readers-all, readers-grow, spanned-grow, wrote-still}
+use Rattle.server_workers.proofs.LeaveLemmas.{has-leave, leave-ticks}
 use Rattle.server_workers.proofs.LinkOverLemmas.{all_but-all, each-weaker, length-push, spans-push}
 use Rattle.server_workers.proofs.TurnLemmas.{of-append, flat-push}
 
@@ -125,10 +126,6 @@ still-ticks mine each = record {
 pub quiet-ticks : (mine : List RunTurn) → EachEntry Ticks mine → NoLeave mine
 quiet-ticks mine each = ticks-each (λ ask. is_leave ask ≡ false) mine refl each
 
-pub still-leave : (left : Option Heard) → IsStill (turn_of inputs.Leave left ∷ [])
-still-leave None = record { asks = tt; hands = refl; no_down = refl }
-still-leave (Some heard) = record { asks = (tt, tt); hands = refl; no_down = refl }
-
 sends-on : (mine more : List RunTurn) → sends (mine ++ more) ≡ sends mine ++ sends more
 sends-on [] more = refl
 sends-on (None ∷ mine) more = sends-on mine more
@@ -141,6 +138,17 @@ still-on mine more one two = record {
   hands = sends-on mine more ∙ ap (λ os. os ++ sends more) one.hands ∙ two.hands;
   no_down = omega (arith, sum_by-append (λ turn. cond (is_entry_of is_down turn) 1 0) mine more, one.no_down, two.no_down);
 }
+
+-- ---- the agent's leave
+
+still-blanks : (blanks : List RunTurn) → AreBlank blanks → IsStill blanks
+still-blanks [] blank = record { asks = tt; hands = refl; no_down = refl }
+still-blanks (None ∷ blanks) blank = let s = still-blanks blanks blank in record { asks = s.asks; hands = s.hands; no_down = omega (arith, s.no_down) }
+still-blanks (Some entry ∷ blanks) blank = absurd blank
+
+pub still-leave : (left : Heard) (tries : List RunTurn) → AsksLeave left tries → IsStill tries
+still-leave left tries asked = subst IsStill (sym asked.whole)
+    (still-on asked.blanks (Some (inputs.Leave, left) ∷ []) (still-blanks asked.blanks asked.blank) (record { asks = (tt, tt); hands = refl; no_down = refl }))
 
 pub still-blank : IsStill (None ∷ [])
 still-blank = record { asks = tt; hands = refl; no_down = refl }
@@ -479,57 +487,47 @@ module _ {I O : Type 0} (hears : I → Inlet) (speaks : O → Outlet) where
         }
 
     -- the Up of a link that was made met want of memory
-    pub ends-unopened : (dials : Dials) (refused : Type 0) (k l m : Known T Input Heard) (twins : Twins D) (past past' : Past I O) (pair : Pair I O) (left : Option Heard)
-        → dials.row ≡ 0 → Rests hears speaks told k twins past → Went (None ∷ []) k l → Went (turn_of inputs.Leave left ∷ []) l m → length past.pairs.items < 256
+    pub ends-unopened : (dials : Dials) (refused : Type 0) (k l m : Known T Input Heard) (twins : Twins D) (past past' : Past I O) (pair : Pair I O) (tries : List RunTurn) (left : Heard)
+        → AsksLeave left tries → dials.row ≡ 0 → Rests hears speaks told k twins past → Went (None ∷ []) k l → Went tries l m → length past.pairs.items < 256
         → past'.pairs.items ≡ past.pairs.items ++ pair ∷ [] → vec_capacity past'.pairs ≡ vec_capacity past.pairs → past'.lost ≡ past.lost → past'.again ≡ past.again
         → IsFreshInlet (hears pair.link_in) → IsFreshOutlet (speaks pair.link_out)
         → Ends hears speaks told run.NoMemory dials dials refused k m twins past'
-    ends-unopened dials refused k l m twins past past' pair left low s blank went few pairs room lost again fresh_in fresh_out =
-        ends-by run.NoMemory dials dials refused k m twins past past' (pair ∷ []) (None ∷ turn_of inputs.Leave left ∷ []) s
-        (went-on (None ∷ []) (turn_of inputs.Leave left ∷ []) k l m blank went)
-        (λ late. still-on (None ∷ []) (turn_of inputs.Leave left ∷ []) still-blank (still-leave left))
-        (leave-ticks left dials.faults) (omega arith) (λ full. absurd (omega (arith, low, full))) pairs room lost again (fresh_in, fresh_out) tt
+    ends-unopened dials refused k l m twins past past' pair tries left asked low s blank went few pairs room lost again fresh_in fresh_out =
+        ends-by run.NoMemory dials dials refused k m twins past past' (pair ∷ []) (None ∷ tries) s
+        (went-on (None ∷ []) tries k l m blank went)
+        (λ late. still-on (None ∷ []) tries still-blank (still-leave left tries asked))
+        (let none = leave-ticks left tries asked in omega (arith, none)) (omega arith) (λ full. absurd (omega (arith, low, full))) pairs room lost again (fresh_in, fresh_out) tt
         (omega (arith, ap length pairs, length-push past.pairs.items pair, few)) (λ t. tt)
-      where
-        leave-ticks : (left : Option Heard) (faults : ℕ) → RoseBy (ticks (None ∷ turn_of inputs.Leave left ∷ [])) faults faults
-        leave-ticks None faults = omega arith
-        leave-ticks (Some heard) faults = omega arith
 
     -- all links that may be made were closed
-    pub ends-worn : (dials : Dials) (refused : Type 0) (k l : Known T Input Heard) (twins : Twins D) (past : Past I O) (left : Option Heard)
-        → dials.row ≡ 0 → (s : Rests hears speaks told k twins past) → Went (turn_of inputs.Leave left ∷ []) k l → 256 ≤ length past.pairs.items
+    pub ends-worn : (dials : Dials) (refused : Type 0) (k l : Known T Input Heard) (twins : Twins D) (past : Past I O) (tries : List RunTurn) (left : Heard)
+        → AsksLeave left tries → dials.row ≡ 0 → (s : Rests hears speaks told k twins past) → Went tries k l → 256 ≤ length past.pairs.items
         → Ends hears speaks told run.Worn dials dials refused k l twins past
-    ends-worn dials refused k l twins past left low s went many =
-        ends-by run.Worn dials dials refused k l twins past past [] (turn_of inputs.Leave left ∷ []) s went (λ late. still-leave left) (leave-ticks left dials.faults)
+    ends-worn dials refused k l twins past tries left asked low s went many =
+        ends-by run.Worn dials dials refused k l twins past past [] tries s went (λ late. still-leave left tries asked) (let none = leave-ticks left tries asked in omega (arith, none))
         (omega arith) (λ full. absurd (omega (arith, low, full))) (sym (append-nil past.pairs.items)) refl refl refl tt refl s.few
         (λ t.
         let b = s.between in
         let (cause, goes_on, ends) = last-closed b.segs (between-some past.pairs.items k.seen s.out s.retries s.some b) b.closed in (
           omega (arith, length-grow b.segs t.rest, spans-length past.pairs.items b.segs s.out s.retries b.spanned.spans, many, s.few),
+          subst HasLeave (sym t.own_now) (has-leave left tries asked (of 0 k.seen)),
           (cause, goes_on, ends-grow (ClosedFor cause) b.segs t.rest (λ seg c. closed_for-grow cause seg t.rest c) ends),
         ))
-      where
-        leave-ticks : (left : Option Heard) (faults : ℕ) → RoseBy (ticks (turn_of inputs.Leave left ∷ [])) faults faults
-        leave-ticks None faults = omega arith
-        leave-ticks (Some heard) faults = omega arith
 
     -- too many dials in a row failed
-    pub ends-undialled : (before now : Dials) (refused : Type 0) (k l m : Known T Input Heard) (twins : Twins D) (past : Past I O) (mine : List RunTurn) (left : Option Heard)
-        → before.row ≡ 0 → Rests hears speaks told k twins past → Went mine k l → Dialled hears speaks dialling.Failed mine before now
-        → Went (turn_of inputs.Leave left ∷ []) l m
+    pub ends-undialled : (before now : Dials) (refused : Type 0) (k l m : Known T Input Heard) (twins : Twins D) (past : Past I O) (mine tries : List RunTurn) (left : Heard)
+        → AsksLeave left tries → before.row ≡ 0 → Rests hears speaks told k twins past → Went mine k l → Dialled hears speaks dialling.Failed mine before now
+        → Went tries l m
         → Ends hears speaks told run.LinkFault before now refused k m twins past
-    ends-undialled before now refused k l m twins past mine left low s dials d went =
-        ends-by run.LinkFault before now refused k m twins past past [] (mine ++ turn_of inputs.Leave left ∷ []) s (went-on mine (turn_of inputs.Leave left ∷ []) k l m dials went)
-        (λ late. still-on mine (turn_of inputs.Leave left ∷ []) (still-ticks mine d.asks) (still-leave left))
-        (let both = sum_by-append (λ turn. cond (is_entry_of is_tick turn) 1 0) mine (turn_of inputs.Leave left ∷ []) in
+    ends-undialled before now refused k l m twins past mine tries left asked low s dials d went =
+        ends-by run.LinkFault before now refused k m twins past past [] (mine ++ tries) s (went-on mine tries k l m dials went)
+        (λ late. still-on mine tries (still-ticks mine d.asks) (still-leave left tries asked))
+        (let both = sum_by-append (λ turn. cond (is_entry_of is_tick turn) 1 0) mine tries in
         let few = few-ticks mine in
-        let none = no-ticks (turn_of inputs.Leave left ∷ []) (leave-tick left) in
+        let none = leave-ticks left tries asked in
         omega (arith, d.faults, both, few, none))
-        d.grows (λ full. d.failed (omega (arith, low, full))) (sym (append-nil past.pairs.items)) refl refl refl tt refl s.few (λ t. d.ends)
-      where
-        leave-tick : (left : Option Heard) → EachEntry (λ ask heard. is_tick ask ≡ false) (turn_of inputs.Leave left ∷ [])
-        leave-tick None = tt
-        leave-tick (Some heard) = (refl, tt)
+        d.grows (λ full. d.failed (omega (arith, low, full))) (sym (append-nil past.pairs.items)) refl refl refl tt refl s.few
+        (λ t. (d.ends, subst HasLeave (sym (t.own_now ∙ sym (append_assoc (of 0 k.seen) mine tries))) (has-leave left tries asked (of 0 k.seen ++ mine))))
 
     -- the run was at its end while no link was open
     pub ends-finished : (end : RunEnd) (before now : Dials) (refused : Type 0) (k l m : Known T Input Heard) (twins : Twins D) (past : Past I O) (mine : List RunTurn)
@@ -634,19 +632,19 @@ module _ {I O : Type 0} (hears : I → Inlet) (speaks : O → Outlet) where
     -- ---- a link that was opened, whose reader couldn't be started
 
     pub ends-unstarted : (end : RunEnd) (dials : Dials) (refused : Type 0) (k l m : Known T Input Heard) (twins twins' : Twins D) (past past' : Past I O) (pair : Pair I O)
-        (left : Option Heard) → dials.row ≡ 0 → (s : LinkOpened hears speaks told k twins past) → Same k l → Went (turn_of inputs.Leave left ∷ []) l m → twins' ≡ twins
+        (tries : List RunTurn) (left : Heard) → AsksLeave left tries → dials.row ≡ 0 → (s : LinkOpened hears speaks told k twins past) → Same k l → Went tries l m → twins' ≡ twins
         → past'.pairs.items ≡ past.pairs.items ++ pair ∷ [] → vec_capacity past'.pairs ≡ vec_capacity past.pairs → past'.lost ≡ past.lost → past'.again ≡ past.again
         → IsFreshInlet (hears pair.link_in) → IsFreshOutlet (speaks pair.link_out)
-        → ((segs : List (List ServerTurn)) (seen : List ServerTurn) → EndsRun end dials.row refused segs seen) → HasSpare {A = Pair I O} end []
+        → ((segs : List (List ServerTurn)) (seen : List ServerTurn) → HasLeave (of 0 seen) → EndsRun end dials.row refused segs seen) → HasSpare {A = Pair I O} end []
         → ((segs : List (List ServerTurn)) → AllBut WasRead segs → HasReaders end segs)
         → Ends hears speaks told end dials dials refused k m twins' past'
-    ends-unstarted end dials refused k l m twins twins' past past' pair left low s same went alike pairs room lost again fresh_in fresh_out ends only read =
-        let t = writer-turns l m (turn_of inputs.Leave left ∷ []) same.numbers went in
+    ends-unstarted end dials refused k l m twins twins' past past' pair tries left asked low s same went alike pairs room lost again fresh_in fresh_out ends only read =
+        let t = writer-turns l m tries same.numbers went in
         let b = s.opened.between in
         let some_seg = between-some past.pairs.items s.opened.before s.out s.retries s.some b in
         let up : ServerTurn = (0, Some (inputs.Up, s.opened.opened)) in
         let seg : List ServerTurn = up ∷ t.rest in
-        let still = still-leave left in
+        let still = still-leave left tries asked in
         let whole : m.seen ≡ s.opened.before ++ seg =
         t.whole ∙ ap (λ ts. ts ++ t.rest) (same.seen ∙ s.opened.whole) ∙ append_assoc s.opened.before (up ∷ []) t.rest in
         let span : Span hears speaks pair seg 0 0 = record {
@@ -658,7 +656,7 @@ module _ {I O : Type 0} (hears : I → Inlet) (speaks : O → Outlet) where
           fresh = fresh_out;
           sound = true;
           wrote = subst (λ ts. Wrote ts true true (speaks pair.link_out) (speaks pair.link_out)) (sym t.own)
-              (wrote-still (turn_of inputs.Leave left ∷ []) true (speaks pair.link_out) still.hands still.no_down);
+              (wrote-still tries true (speaks pair.link_out) still.hands still.no_down);
           read = inr (fresh_in, t.alone, refl, refl);
         } in
         let spanned : Spanned hears speaks past'.pairs.items (b.segs ++ seg ∷ []) m.seen (s.out + 0) (s.retries + 0) = record {
@@ -670,15 +668,15 @@ module _ {I O : Type 0} (hears : I → Inlet) (speaks : O → Outlet) where
           spans = subst (λ ps. Spans hears speaks ps (b.segs ++ seg ∷ []) (s.out + 0) (s.retries + 0)) (sym pairs)
               (spans-push hears speaks past.pairs.items b.segs s.out s.retries pair seg 0 0 b.spanned.spans span);
         } in
-        let own_now : of 0 m.seen ≡ of 0 k.seen ++ turn_of inputs.Leave left ∷ [] = t.own_now ∙ ap (λ ts. of 0 ts ++ turn_of inputs.Leave left ∷ []) same.seen in
+        let own_now : of 0 m.seen ≡ of 0 k.seen ++ tries = t.own_now ∙ ap (λ ts. of 0 ts ++ tries) same.seen in
         let alone_now : of 3 m.seen ≡ of 3 k.seen = t.alone_now ∙ ap (of 3) same.seen in
         record {
           first = t.first ∙ same.first;
           numbers = t.numbers;
           ticked = record {
-            more = turn_of inputs.Leave left ∷ [];
+            more = tries;
             whole = own_now;
-            counted = let none = no-ticks (turn_of inputs.Leave left ∷ []) (leave-tick left) in omega (arith, none);
+            counted = let none = leave-ticks left tries asked in omega (arith, none);
             grows = omega arith;
           };
           failed = λ full. absurd (omega (arith, low, full));
@@ -698,7 +696,7 @@ module _ {I O : Type 0} (hears : I → Inlet) (speaks : O → Outlet) where
             closed = all_but-all IsClosed b.segs seg b.closed;
             first = first-push b.segs seg (first-all b.segs some_seg b.read);
             read = read (b.segs ++ seg ∷ []) (all_but-all WasRead b.segs seg b.read);
-            ends = ends (b.segs ++ seg ∷ []) m.seen;
+            ends = ends (b.segs ++ seg ∷ []) m.seen (subst HasLeave (sym own_now) (has-leave left tries asked (of 0 k.seen)));
           };
           tally = record {
             lost = omega (arith, lost, s.tally.lost);
@@ -710,10 +708,6 @@ module _ {I O : Type 0} (hears : I → Inlet) (speaks : O → Outlet) where
             room = omega (arith, room, s.tally.room);
           };
         }
-      where
-        leave-tick : (left : Option Heard) → EachEntry (λ ask heard. is_tick ask ≡ false) (turn_of inputs.Leave left ∷ [])
-        leave-tick None = tt
-        leave-tick (Some heard) = (refl, tt)
 
     pub goes-after : (r : Next T D I O) (turnstile : TableId) (d e f : Dials) (starts starts' : ℕ) (k l m : Known T Input Heard) (past : Past I O)
         → l.first ≡ k.first → Ticked (of 0 k.seen) (of 0 l.seen) d.faults e.faults

@@ -1,5 +1,5 @@
 -- How a reader of a socket goes on from look to look.
-use Rattle.std.proofs.Common.{◌≡◌, ℕ, ◌+◌, ◌-◌, ◌^◌, ◌<◌, ◌≤◌, ◌==◌, min, Bool, true, false, cond, List, [], ◌∷◌, ◌++◌, All, Option, Some, None, option_map, MatchBool, refl, sym, ap, ◌∙◌, subst, append_assoc, inl, inr, arith}
+use Rattle.std.proofs.Common.{◌≡◌, ℕ, ◌+◌, ◌-◌, ◌^◌, ◌<◌, ◌≤◌, ◌==◌, min, Bool, true, false, cond, List, [], ◌∷◌, ◌++◌, All, flat_map, Option, Some, None, option_map, MatchBool, refl, sym, ap, ◌∙◌, subst, append_assoc, inl, inr, arith}
 use Rattle.std.proofs.lemmas.Grind.{flat_map-append}
 use Rattle.std.proofs.lemmas.Bool.{MatchBool-at_true, MatchBool-at_false, cases_order}
 use Rattle.std.proofs.lemmas.List.Elements.{All-append, All-cons, All-nil, All-weaker}
@@ -15,12 +15,13 @@ use Rattle.wire_devices.specs.Telling.{Adds, AddsOne}
 use Rattle.wire_devices.proofs.TellingLaws.{Adds-append, Adds-none, Adds-same}
 use Rattle.server_workers.specs.declared.heard.Heard.{Heard}
 use Rattle.server_workers.specs.declared.socket_reader.ReadCounts.{ReadCounts}
-use Rattle.server_workers.specs.Entries.{EndsWith, Less, RunTurn, entry_replies, is_entry_of, is_tick, replies, reply_of, ticks, turn_of}
+use Rattle.server_workers.specs.Entries.{AsksLeave, EndsWith, Less, RunTurn, entry_replies, is_entry_of, is_tick, replies, reply_of, ticks, turn_of}
 use Rattle.server_workers.specs.Entries.Less.{empty, keeps, loses}
 use Rattle.server_workers.specs.Going.{Went}
 use Rattle.server_workers.specs.SocketReading.{AddsAtLeast, Hands, IsLast, Reads, ReadsOnce, ReadsSocket, SocketMayAsk, SocketMayTake, StopsReading, datagram_in, datagrams, entry_datagram, input_of, is_last}
 use Rattle.server_workers.proofs.EntryLemmas.{less-append}
 use Rattle.server_workers.proofs.GoingLemmas.{went-none, went-on}
+use Rattle.server_workers.proofs.LeaveLemmas.{has-leave, has-leave-behind, leave-datagrams, leave-replies, leave-taken, leave-ticks}
 
 -- ---- lists
 
@@ -54,19 +55,20 @@ at_least-one {a} {b} adds = record { still = λ n is. by a n (adds.still n is) }
     by (Some m) n is = let same : m + 1 ≡ n = cc in (m, refl, omega (arith, same))
 
 pub hands-none : (s : Socket) → Hands s s []
-hands-none s = record { handed = Adds-none s.handed; received = refl; idle = refl; row = refl; grows = omega arith }
+hands-none s = record { handed = Adds-none s.handed; received = refl; idle = refl; row = refl; port = refl; grows = omega arith }
 
 -- the count of faults never fell, and it rose where more receives in a row failed
 record CountsFaults (s t : Socket) : Type 0 where
   grows : s.faults ≤ t.faults
   failed : s.row < t.row → Rose s.faults t.faults
+  port : t.port ≡ s.port
 
 -- no receive failed
-faults-same : (s t : Socket) → t.faults ≡ s.faults → t.row ≡ 0 → CountsFaults s t
-faults-same s t same low = record { grows = omega (arith, same); failed = λ more. absurd (omega (arith, more, low)) }
+faults-same : (s t : Socket) → t.faults ≡ s.faults → t.row ≡ 0 → t.port ≡ s.port → CountsFaults s t
+faults-same s t same low port = record { grows = omega (arith, same); failed = λ more. absurd (omega (arith, more, low)); port = port }
 
 faults-rise : (s t : Socket) → FailedToReceive s t → CountsFaults s t
-faults-rise s t failed = let rises = failed.faults in record { grows = omega (arith, rises); failed = λ more. omega (arith, rises) }
+faults-rise s t failed = let rises = failed.faults in record { grows = omega (arith, rises); failed = λ more. omega (arith, rises); port = failed.port }
 
 rose-then : (s t u : Socket) → CountsFaults s t → t.faults ≤ u.faults → (t.row < u.row → Rose t.faults u.faults) → s.row < u.row → Rose s.faults u.faults
 rose-then s t u one grows failed more =
@@ -92,7 +94,8 @@ reads-on via mine more s t u n m low one two = record {
   idle = subst (AddsAtLeast s.idle u.idle) (sym (sum_by-append (λ turn. cond (is_entry_of is_tick turn) 1 0) mine more)) (at_least-on one.idle two.idle);
   asks = All-append (SocketMayTake via u.row) mine more (All-weaker (SocketMayTake via t.row) (SocketMayTake via u.row) (earlier via t.row u.row low) mine one.asks) two.asks;
   grows = omega (arith, one.grows, two.grows);
-  failed = rose-then s t u (record { grows = one.grows; failed = one.failed }) two.grows two.failed;
+  failed = rose-then s t u (record { grows = one.grows; failed = one.failed; port = one.port }) two.grows two.failed;
+  port = two.port ∙ one.port;
 }
   where
     asked : (via : Via) (row later : ℕ) → row < 16 → (ask : Input) → SocketMayAsk via row ask → SocketMayAsk via later ask
@@ -124,6 +127,7 @@ reads-by via mine got out s t u received same idle entered faults hands asks = r
   asks = asks;
   grows = omega (arith, faults.grows, hands.grows);
   failed = rose-then s t u faults hands.grows (λ more. absurd (omega (arith, more, hands.row)));
+  port = hands.port ∙ faults.port;
 }
 
 single : {A : Type 0} (P : A → Type 0) (x : A) → P x → All P (x ∷ [])
@@ -140,7 +144,7 @@ no_datagram ask (Some h) is = rw is empty
 
 -- whether a turn is the last, where no receive failed
 over-by : (row : ℕ) (mine : List RunTurn) (over : Bool) → row ≡ 0 → (over ≡ true → EndsWith IsLast mine) → MatchBool over (StopsReading row mine) (row < 16)
-over-by row mine true low last = inr (last refl)
+over-by row mine true low last = inr (omega (arith, low), last refl)
 over-by row mine false low last = omega (arith, low)
 
 -- whether this answer is the last
@@ -159,7 +163,7 @@ module _ {T : Type 0} (via : Via) (k l : Known T Input Heard) (s t u : Socket) (
         out = 0;
         went = went;
         reads = reads-by via mine (d ∷ []) 0 s t u gave.received gave.handed (at_least-none gave.idle) (keeps d [] [] 0 empty)
-            (faults-same s t gave.faults gave.row) hands (may-take via u.row (input_of via d) (Some heard) refl);
+            (faults-same s t gave.faults gave.row gave.port) hands (may-take via u.row (input_of via d) (Some heard) refl);
         counted = omega (arith, few);
         row = sym low;
         last = over-by u.row mine (is_last heard) low (λ is. ([], Some (input_of via d, heard), refl, is));
@@ -175,7 +179,7 @@ module _ {T : Type 0} (via : Via) (k l : Known T Input Heard) (s t u : Socket) (
         out = 1;
         went = went;
         reads = reads-by via (None ∷ []) (d ∷ []) 1 s t u gave.received gave.handed (at_least-none gave.idle) (loses d [] [] 0 empty)
-            (faults-same s t gave.faults gave.row) hands (may-take via u.row (input_of via d) None refl);
+            (faults-same s t gave.faults gave.row gave.port) hands (may-take via u.row (input_of via d) None refl);
         counted = refl;
         row = sym low;
         last = omega (arith, low);
@@ -188,7 +192,7 @@ module _ {T : Type 0} (via : Via) (k l : Known T Input Heard) (s t u : Socket) (
     out = 1;
     went = went-none k;
     reads = reads-by via [] (d ∷ []) 1 s t t gave.received gave.handed (at_least-none gave.idle) (loses d [] [] 0 empty)
-        (faults-same s t gave.faults gave.row) (hands-none t) (All-nil (SocketMayTake via t.row));
+        (faults-same s t gave.faults gave.row gave.port) (hands-none t) (All-nil (SocketMayTake via t.row));
     counted = refl;
     row = sym gave.row;
     last = omega (arith, gave.row);
@@ -205,7 +209,7 @@ module _ {T : Type 0} (via : Via) (k l : Known T Input Heard) (s t u : Socket) (
         out = 0;
         went = went;
         reads = reads-by via mine [] 0 s t u (Adds-same found.received) found.handed (tick heard) (no_datagram inputs.Tick heard refl)
-            (faults-same s t found.faults found.row) hands (may-take via u.row inputs.Tick heard tt);
+            (faults-same s t found.faults found.row found.port) hands (may-take via u.row inputs.Tick heard tt);
         counted = omega (arith, few);
         row = sym low;
         last = over-by u.row mine (stopped heard) low (ends heard);
@@ -235,26 +239,23 @@ module _ {T : Type 0} (via : Via) (k l : Known T Input Heard) (s t u : Socket) (
       }
 
   -- one too many, and the Leave after it
-  pub took-leave : (heard : Option Heard) → FailedToReceive s t → before.row ≡ s.row → before.row + 1 ≡ 16 → Went (turn_of inputs.Leave heard ∷ []) k l
-      → Hands t u (replies (turn_of inputs.Leave heard ∷ [])) → ReadsOnce via k l s u before (record { lost = before.lost; row = before.row + 1 }) true
-  took-leave heard failed same last went hands =
-      let mine : List RunTurn = turn_of inputs.Leave heard ∷ [] in
+  pub took-leave : (left : Heard) (tries : List RunTurn) → AsksLeave left tries → FailedToReceive s t → before.row ≡ s.row → before.row + 1 ≡ 16 → Went tries k l
+      → Hands t u (flat_map reply_of left.outputs) → ReadsOnce via k l s u before (record { lost = before.lost; row = before.row + 1 }) true
+  took-leave left tries asked failed same last went hands =
       let row : before.row + 1 ≡ u.row = omega (arith, failed.row, hands.row, same, last) in
       let full : u.row ≡ 16 = sym row ∙ last in
       record {
-        mine = mine;
+        mine = tries;
         out = 0;
         went = went;
-        reads = reads-by via mine [] 0 s t u (Adds-same failed.received) failed.handed (tick heard) (no_datagram inputs.Leave heard refl)
-            (faults-rise s t failed) hands (may-take via u.row inputs.Leave heard full);
+        reads = reads-by via tries [] 0 s t u (Adds-same failed.received) failed.handed
+            (subst (AddsAtLeast s.idle t.idle) (sym (leave-ticks left tries asked)) (at_least-none failed.idle))
+            (subst (λ (ds : List Datagram). Less [] ds 0) (sym (leave-datagrams left tries asked)) empty)
+            (faults-rise s t failed) (subst (Hands t u) (sym (leave-replies left tries asked)) hands) (leave-taken left tries asked via u.row full);
         counted = omega (arith, few);
         row = row;
-        last = inl full;
+        last = inl (full, has-leave left tries asked []);
       }
-    where
-      tick : (heard : Option Heard) → AddsAtLeast s.idle t.idle (ticks (turn_of inputs.Leave heard ∷ []))
-      tick None = at_least-none failed.idle
-      tick (Some h) = at_least-none failed.idle
 
 -- ---- a run of a reader
 
@@ -274,7 +275,7 @@ module _ {T : Type 0} (via : Via) (k : Known T Input Heard) (s : Socket) where
     mine = [];
     out = 0;
     went = went-none k;
-    reads = reads-by via [] [] 0 s s s (Adds-none s.received) refl (at_least-none refl) empty (faults-same s s refl low) (hands-none s) (All-nil (SocketMayTake via s.row));
+    reads = reads-by via [] [] 0 s s s (Adds-none s.received) refl (at_least-none refl) empty (faults-same s s refl low refl) (hands-none s) (All-nil (SocketMayTake via s.row));
     counted = omega arith;
     row = sym low;
     low = omega (arith, low);
@@ -309,5 +310,5 @@ module _ {T : Type 0} (via : Via) (k : Known T Input Heard) (s : Socket) where
   }
     where
       by : StopsReading u.row once.mine → StopsReading u.row (so_far.mine ++ once.mine)
-      by (inl full) = inl full
-      by (inr ends) = inr (ends-after so_far.mine once.mine ends)
+      by (inl (full, left)) = inl (full, has-leave-behind so_far.mine once.mine left)
+      by (inr (low, ends)) = inr (low, ends-after so_far.mine once.mine ends)

@@ -7,7 +7,7 @@ use Rattle.peer_machine.specs.declared.LinkCause.TheVariants as causes
 use Rattle.wire_devices.specs.declared.devices.Datagram.{Datagram}
 use Rattle.wire_devices.specs.Sockets.{datagram}
 use Rattle.agent_events.specs.declared.events.Input.{Input}
-use Rattle.agent_events.specs.declared.events.Input.TheVariants.{Down, Tick, Drain}
+use Rattle.agent_events.specs.declared.events.Input.TheVariants.{Down, Tick, Drain, Leave}
 use Rattle.agent_events.specs.declared.events.Output.{Output}
 use Rattle.agent_events.specs.declared.events.Output.TheVariants.{Reply, Send}
 use Rattle.server_workers.specs.declared.heard.Heard.{Heard}
@@ -65,6 +65,23 @@ is_blank (Some entry) = false
 
 abbrev pub blanks : List RunTurn → ℕ
 blanks turns = count_by is_blank turns
+
+-- ---- the agent's leave
+
+-- a Leave was entered among these
+abbrev pub HasLeave : List RunTurn → Type 0
+HasLeave turns = (front back : List RunTurn) × ((left : Heard) × (turns ≡ front ++ Some (Leave, left) ∷ back))
+
+abbrev pub AreBlank : List RunTurn → Type 0
+AreBlank [] = Unit {0}
+AreBlank (None ∷ turns) = AreBlank turns
+AreBlank (Some entry ∷ turns) = ⊥
+
+-- A Leave was asked for until it was entered: as often as memory was wanting the turn was blank.
+pub record AsksLeave (left : Heard) (turns : List RunTurn) : Type 0 where
+  pub blanks : List RunTurn
+  pub whole : turns ≡ blanks ++ Some (Leave, left) ∷ []
+  pub blank : AreBlank blanks
 
 -- ---- replies
 

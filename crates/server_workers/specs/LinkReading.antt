@@ -115,6 +115,7 @@ pub record ReadsOctets (mine : List RunTurn) (got : List ℕ) (heeded : List Inp
   pub down : 0 < downs mine → HasEnded now
   pub ended : HasEnded now → (0 < downs mine) ⊎ (0 < blanks mine)
   pub asks : All LinkMayTake mine
+  pub number : now.number ≡ before.number
 
 -- The turns of a whole run: the stream of what was received was heeded. A rest may be left out where the last turn is a
 -- Message, or where the framer once found no memory.
@@ -142,6 +143,10 @@ pub record Sight (T : Type 0) : Type 0 where
 abbrev pub sight : {T : Type 0} → Known T Input Heard → Inlet → Socket → Socket → Sight T
 sight seen link auth acct = record { known = seen; link = link; auth = auth; acct = acct }
 
+-- both sockets are where they were
+abbrev pub StayAt : Socket → Socket → Socket → Socket → Type 0
+StayAt auth acct auth' acct' = (auth'.port ≡ auth.port) × (acct'.port ≡ acct.port)
+
 -- A whole run of a reader. What is lost is counted up to 2^64 - 1, and so are the Ticks that were asked because the framer
 -- found no memory. Each socket was handed its replies.
 pub record ReadsLink {T : Type 0} (before now : Sight T) (lost again : ℕ) : Type 0 where
@@ -154,6 +159,7 @@ pub record ReadsLink {T : Type 0} (before now : Sight T) (lost again : ℕ) : Ty
   pub again_is : again ≡ min retries (2 ^ 64 - 1)
   pub auth : Adds before.auth.handed now.auth.handed (replies_by Auth mine)
   pub acct : Adds before.acct.handed now.acct.handed (replies_by Acct mine)
+  pub ports : StayAt before.auth before.acct now.auth now.acct
 
 -- ---- on the way
 
@@ -174,6 +180,7 @@ module _ {T D : Type 0} (told : D → Socket) where
     pub went : Went (turn_of ask heard ∷ []) (known old.pass) (known new.pass)
     pub auth : Adds (told old.auth_twin).handed (told new.auth_twin).handed (replies_by Auth (turn_of ask heard ∷ []))
     pub acct : Adds (told old.acct_twin).handed (told new.acct_twin).handed (replies_by Acct (turn_of ask heard ∷ []))
+    pub ports : StayAt (told old.auth_twin) (told old.acct_twin) (told new.auth_twin) (told new.acct_twin)
     pub lost : new.lost ≡ (if missed ask heard then one_more old.lost else old.lost)
     pub again : new.again ≡ old.again
     pub last : over ≡ is_last_of heard
@@ -191,6 +198,7 @@ module _ {T D : Type 0} (told : D → Socket) where
     pub again_is : visitor.again ≡ min retries (2 ^ 64 - 1)
     pub auth : Adds start.auth.handed (told visitor.auth_twin).handed (replies_by Auth mine)
     pub acct : Adds start.acct.handed (told visitor.acct_twin).handed (replies_by Acct mine)
+    pub ports : StayAt start.auth start.acct (told visitor.auth_twin) (told visitor.acct_twin)
 
   -- The framer was fed all that was received but this piece. What it gave was heeded.
   pub record SoFar (piece : List ℕ) (start : Sight T) (visitor : Visitor T D) (link : Inlet) (framer : FramerParts) : Type 0 where

@@ -1,5 +1,5 @@
 -- How the writer goes from link to link.
-use Rattle.std.specs.Prelude.{◌≡◌, ℕ, ◌+◌, ◌-◌, ◌^◌, ◌<◌, ◌≤◌, ◌⊎◌, max, min, Bool, true, false, List, [], ◌∷◌, ◌++◌, length, All, Option, Some, None, vec_capacity, if◌then◌else◌}
+use Rattle.std.specs.Prelude.{◌≡◌, ℕ, ◌+◌, ◌-◌, ◌^◌, ◌<◌, ◌≤◌, ◌⊎◌, max, min, Bool, true, false, List, [], ◌∷◌, ◌++◌, length, map, All, Option, Some, None, vec_capacity, if◌then◌else◌}
 use Rattle.wire_core.specs.Counts.{Rose}
 use Rattle.radius_packet.specs.declared.reasons.Via.TheVariants.{Auth, Acct}
 use Rattle.peer_machine.specs.declared.LinkCause.{LinkCause}
@@ -30,7 +30,7 @@ use Rattle.server_workers.specs.declared.running.Twins.{Twins}
 use Rattle.server_workers.specs.declared.links.Pair.{Pair}
 use Rattle.server_workers.specs.declared.workers.Worker.{Worker}
 use Rattle.server_workers.specs.declared.workers.Worker.TheVariants as worker
-use Rattle.server_workers.specs.Entries.{EachEntry, EndsWith, RunTurn, is_final, octets_in, replies_by, ticks}
+use Rattle.server_workers.specs.Entries.{EachEntry, EndsWith, HasLeave, RunTurn, is_final, octets_in, replies_by, ticks}
 use Rattle.server_workers.specs.Going.{Went}
 use Rattle.server_workers.specs.LinkReading.{LinkMayTake, ReadsLink, sight}
 use Rattle.agent_events.specs.Kinds.{is_leave}
@@ -141,9 +141,9 @@ EndsRun run.Closed row refused segs seen =
     NoLeave (of 0 seen) × ((cause : LinkCause) × (is_final cause ≡ true) × EndsWith (ClosedFor cause) segs)
 EndsRun run.Left row refused segs seen = LeftAtEnd (of 0 seen)
 EndsRun run.Worn row refused segs seen =
-    (length segs ≡ 256) × ((cause : LinkCause) × (is_final cause ≡ false) × EndsWith (ClosedFor cause) segs)
-EndsRun run.LinkFault row refused segs seen = row ≡ 16
-EndsRun run.NoThread row refused segs seen = refused
+    (length segs ≡ 256) × HasLeave (of 0 seen) × ((cause : LinkCause) × (is_final cause ≡ false) × EndsWith (ClosedFor cause) segs)
+EndsRun run.LinkFault row refused segs seen = (row ≡ 16) × HasLeave (of 0 seen)
+EndsRun run.NoThread row refused segs seen = refused × HasLeave (of 0 seen)
 EndsRun run.NoMemory row refused segs seen = Unit {0}
 
 -- the reader of each link took turns, but that of the last where it couldn't be started
@@ -341,6 +341,45 @@ module _ {I O : Type 0} (hears : I → Inlet) (speaks : O → Outlet) where
 abbrev pub IsLinkWorker : {T D I : Type 0} → Worker T D I → Type 0
 IsLinkWorker {T} {D} {I} (worker.Link alloc shared pass link auth acct) = Unit {0}
 IsLinkWorker {T} {D} {I} (worker.Reader alloc shared pass via socket) = ⊥
+
+-- where the twins are
+abbrev pub ports_of : {D : Type 0} → (D → Socket) → Twins D → Option ℕ × Option ℕ
+ports_of {D} told twins = ((told twins.auth).port, (told twins.acct).port)
+
+abbrev pub ports_in : {T D I : Type 0} → (D → Socket) → Worker T D I → Option ℕ × Option ℕ
+ports_in {T} {D} {I} told (worker.Link alloc shared pass link auth acct) = ((told auth).port, (told acct).port)
+ports_in {T} {D} {I} told (worker.Reader alloc shared pass via socket) = (None, None)
+
+abbrev pub ports_next : {T D I O : Type 0} → (D → Socket) → Next T D I O → Option ℕ × Option ℕ
+ports_next {T} {D} {I} {O} told (next.Go live) = ports_in told live.helper
+ports_next {T} {D} {I} {O} told (next.Stop end twins) = ports_of told twins
+
+-- ---- in which order links were made
+
+-- which of its dialer's links each is
+abbrev pub numbers_of : {I O : Type 0} → (I → Inlet) → List (Pair I O) → List (Option ℕ)
+numbers_of {I} {O} hears pairs = map (λ (pair : Pair I O). (hears pair.link_in).number) pairs
+
+abbrev pub number_in : {T D I : Type 0} → (I → Inlet) → Worker T D I → Option ℕ
+number_in {T} {D} {I} hears (worker.Link alloc shared pass link auth acct) = (hears link).number
+number_in {T} {D} {I} hears (worker.Reader alloc shared pass via socket) = None
+
+-- the first is the n-th that was made, and each other the one after that before it
+abbrev pub InOrder : ℕ → List (Option ℕ) → Type 0
+InOrder n [] = Unit {0}
+InOrder n (x ∷ xs) = TellsOnly x n × InOrder (counted n 1) xs
+
+-- a link that was made goes on, or is over with the others, or none was made
+abbrev pub NextInOrder : {T D I O : Type 0} → (I → Inlet) → Next T D I O → ℕ → List (Option ℕ) → List (Option ℕ) → Type 0
+NextInOrder {T} {D} {I} {O} hears (next.Go live) made before now = (now ≡ before) × TellsOnly (number_in hears live.helper) made
+NextInOrder {T} {D} {I} {O} hears (next.Stop end twins) made before now =
+    (now ≡ before) ⊎ ((x : Option ℕ) × (now ≡ before ++ x ∷ []) × TellsOnly x made)
+
+-- the n-th link was made, or none
+abbrev pub MadeAs : {I O : Type 0} → (I → Inlet) → Dialling I O → ℕ → Type 0
+MadeAs {I} {O} hears (dialling.Made link_in link_out) made = TellsOnly (hears link_in).number made
+MadeAs {I} {O} hears dialling.Finished made = Unit {0}
+MadeAs {I} {O} hears dialling.Failed made = Unit {0}
 
 -- it was never started
 abbrev pub ReaderNeverRan : {T D I : Type 0} → Worker T D I → ReaderBack T D I → Type 0

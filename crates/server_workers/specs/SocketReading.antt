@@ -11,7 +11,7 @@ use Rattle.wire_devices.specs.Sockets.{Socket, datagram}
 use Rattle.wire_devices.specs.Telling.{Adds}
 use Rattle.server_workers.specs.declared.heard.Heard.{Heard}
 use Rattle.server_workers.specs.declared.socket_reader.ReadCounts.{ReadCounts}
-use Rattle.server_workers.specs.Entries.{EndsWith, Less, RunTurn, is_final, replies, ticks}
+use Rattle.server_workers.specs.Entries.{EndsWith, HasLeave, Less, RunTurn, is_final, replies, ticks}
 use Rattle.server_workers.specs.Going.{Went}
 
 -- ---- turns
@@ -69,6 +69,7 @@ pub record Hands (before now : Socket) (sent : List Datagram) : Type 0 where
   pub received : now.received ≡ before.received
   pub idle : now.idle ≡ before.idle
   pub row : now.row ≡ before.row
+  pub port : now.port ≡ before.port
   pub grows : before.faults ≤ now.faults
 
 -- ---- a reader
@@ -85,10 +86,11 @@ pub record Reads (via : Via) (mine : List RunTurn) (s t : Socket) (out : ℕ) : 
   pub asks : All (SocketMayTake via t.row) mine
   pub grows : s.faults ≤ t.faults
   pub failed : s.row < t.row → Rose s.faults t.faults
+  pub port : t.port ≡ s.port
 
--- 16 receives in a row failed, or the last turn is an entry after whose answer a reader stops
+-- 16 receives in a row failed and a Leave was entered, or the last turn is an entry after whose answer a reader stops
 abbrev pub StopsReading : ℕ → List RunTurn → Type 0
-StopsReading row mine = (row ≡ 16) ⊎ EndsWith IsLast mine
+StopsReading row mine = ((row ≡ 16) × HasLeave mine) ⊎ ((row < 16) × EndsWith IsLast mine)
 
 -- the turns of a whole run
 pub record ServedSocket (via : Via) (mine : List RunTurn) (s t : Socket) (out : ℕ) : Type 0 where

@@ -20,5 +20,5 @@ pub use links::{Links, Pair};
 pub use running::{
     Live, MOST_LINKS, Past, ReaderBack, RunEnd, Twins, reader_unstarted, serve_links,
 };
-pub use turns::enter;
+pub use turns::{enter, take_leave};
 pub use workers::{Ended, Shared, Worker};

@@ -4,7 +4,7 @@ ghost use Rattle.std.specs.Prelude.{◌≡◌, List, [], ◌∷◌};
 ghost use Rattle.turnstile.specs.Passes.{known, table_of};
 ghost use Rattle.server_workers.specs.Entries.{RunTurn};
 ghost use Rattle.server_workers.specs.Going.{Went};
-ghost use Rattle.server_workers.specs.Running.{Dialled, MadeBy, TookTick};
+ghost use Rattle.server_workers.specs.Running.{Dialled, MadeAs, MadeBy, TookTick};
 
 use crate::base::RunBase;
 use crate::heard::Heard;
@@ -54,6 +54,7 @@ pub fn dial<
     ensures table { table_of pass.new ≡ table_of pass.old }
     ensures dialled { (mine : List RunTurn) × Went mine (known pass.old) (known pass.new) × Dialled L.In.told L.Out.told result mine (L.told dialer.old) (L.told dialer.new) }
     ensures made { MadeBy result (L.made dialer.old) (L.made dialer.new) }
+    ensures numbered { MadeAs L.In.told result (L.made dialer.old) }
 {
     for row in 0..MOST_DIALS {
         if let Some((link_in, link_out)) = dialer.dial() {

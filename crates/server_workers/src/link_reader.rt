@@ -7,7 +7,7 @@ ghost use Rattle.turnstile.specs.Passes.{known, table_of};
 ghost use Rattle.wire_devices.specs.Links.{Inlet};
 ghost use Rattle.wire_devices.specs.Telling.{Adds};
 ghost use Rattle.server_workers.specs.Entries.{reply_by};
-ghost use Rattle.server_workers.specs.LinkReading.{Gives, HeededAll, ReadsLink, Sight, SoFar, Stops, Visits, is_framed as framed_test, is_links_last as last_test, sight};
+ghost use Rattle.server_workers.specs.LinkReading.{Gives, HeededAll, ReadsLink, Sight, SoFar, StayAt, Stops, Visits, is_framed as framed_test, is_links_last as last_test, sight};
 
 use crate::base::RunBase;
 use crate::heard::Heard;
@@ -72,6 +72,7 @@ fn is_last(heard: &Heard) -> bool
 fn send_reply<D: Datagrams>(output: &Output, auth: &mut D, acct: &mut D)
     ensures auth { Adds (D.told auth.old).handed (D.told auth.new).handed (reply_by Auth output.now) }
     ensures acct { Adds (D.told acct.old).handed (D.told acct.new).handed (reply_by Acct output.now) }
+    ensures ports { StayAt (D.told auth.old) (D.told acct.old) (D.told auth.new) (D.told acct.new) }
 {
     if let Output::Reply {
         via,
@@ -90,6 +91,7 @@ fn send_reply<D: Datagrams>(output: &Output, auth: &mut D, acct: &mut D)
 fn send_replies<D: Datagrams>(outputs: &[Output], auth: &mut D, acct: &mut D)
     ensures auth { Adds (D.told auth.old).handed (D.told auth.new).handed (flat_map (reply_by Auth) outputs.now) }
     ensures acct { Adds (D.told acct.old).handed (D.told acct.new).handed (flat_map (reply_by Acct) outputs.now) }
+    ensures ports { StayAt (D.told auth.old) (D.told acct.old) (D.told auth.new) (D.told acct.new) }
 {
     for output in outputs {
         send_reply(output, auth, acct);

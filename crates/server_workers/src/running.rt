@@ -5,20 +5,20 @@ ghost use Rattle.std.specs.Arc.{arc_value};
 ghost use Rattle.wire_core.specs.Counts.{Rose};
 ghost use Rattle.wire_devices.specs.Dialling.{Dials};
 ghost use Rattle.wire_devices.specs.Links.{IsFreshInlet, IsFreshOutlet};
+ghost use Rattle.wire_devices.specs.Telling.{TellsOnly};
 ghost use Rattle.turnstile.specs.Knowing.{Joined};
 ghost use Rattle.turnstile.specs.Passes.{known, table_of};
 ghost use Rattle.turnstile.specs.Turns.{of};
-ghost use Rattle.agent_events.specs.declared.events.Input.TheVariants.{Leave};
-ghost use Rattle.server_workers.specs.Entries.{turn_of};
+ghost use Rattle.server_workers.specs.Entries.{AsksLeave, RunTurn};
 ghost use Rattle.server_workers.specs.Going.{Went};
-ghost use Rattle.server_workers.specs.Running.{ComesNext, Ends, IsLinkWorker, Keeps, KeepsAll, KeepsPair, LinkOpened, Over, ReaderNeverRan, ReaderRan, Rests, StartedAs, StopsAs, StopsFor, TakesLeaveAlone, end_after as end_after_test};
+ghost use Rattle.server_workers.specs.Running.{ComesNext, Ends, IsLinkWorker, Keeps, KeepsAll, KeepsPair, LinkOpened, Over, ReaderNeverRan, ReaderRan, Rests, StartedAs, StopsAs, StopsFor, TakesLeaveAlone, end_after as end_after_test, ports_in, ports_next, ports_of, InOrder, NextInOrder, counted, number_in, numbers_of};
 
 use crate::base::RunBase;
 use crate::heard::Heard;
 use crate::link_making::{Dialling, dial};
 use crate::link_writer::{WriterEnd, write_link};
 use crate::links::Pair;
-use crate::turns::{enter, is_final};
+use crate::turns::{enter, is_final, take_leave};
 use crate::workers::{Ended, Shared, Worker};
 use agent_events::Input;
 use std::alloc::Global;
@@ -192,6 +192,8 @@ where
     ensures table { table_of pass.new ≡ table_of pass.old }
     ensures over { Over I.told O.told D.told result.0 (known pass.old) (known pass.new) result.1 past.new }
     ensures kept { length past.new.pairs.items ≡ length past.old.pairs.items + 1 }
+    ensures ports { ports_of D.told result.1 ≡ ports_in D.told live.helper }
+    ensures numbers { numbers_of I.told past.new.pairs.items ≡ numbers_of I.told past.old.pairs.items ++ number_in I.told live.helper ∷ [] }
     ensures faults { W.faults crew.new ≡ W.faults crew.old }
     ensures started { W.started crew.new ≡ W.started crew.old }
 {
@@ -293,9 +295,9 @@ where
     requires { table_of pass.old ≡ arc_value turnstile.now }
     ensures table { table_of pass.new ≡ table_of pass.old }
     ensures next { result ≡ Next.Stop end twins }
-    ensures went { (left : Option Heard) × Went (turn_of Leave left ∷ []) (known pass.old) (known pass.new) }
+    ensures went { (tries : List RunTurn) × ((left : Heard) × Went tries (known pass.old) (known pass.new) × AsksLeave left tries) }
 {
-    let _ = enter(rt, turnstile, pass, &Input::Leave);
+    let _ = take_leave(rt, turnstile, pass);
     Next::Stop { end, twins }
 }
 
@@ -327,6 +329,9 @@ where
     ensures next { (dials : Dials) → dials.row ≡ 0 → ComesNext I.told O.told D.told result (arc_value turnstile.now) dials dials (W.faults crew.old) (W.faults crew.new) (known pass.old) (known pass.new) past.new }
     ensures stops { StopsAs result 0 (W.faults crew.old) (W.faults crew.new) }
     ensures kept { KeepsPair result (length past.old.pairs.items) (length past.new.pairs.items) }
+    ensures ports { ports_next D.told result ≡ ports_of D.told twins }
+    ensures order { (made : ℕ) → TellsOnly (I.told pair.link_in).number made
+        → NextInOrder I.told result made (numbers_of I.told past.old.pairs.items) (numbers_of I.told past.new.pairs.items) }
     ensures started { W.started crew.old ≤ W.started crew.new }
 {
     let Ok(share) = Arc::try_clone(turnstile) else {
@@ -382,6 +387,9 @@ where
     ensures next { (dials : Dials) → dials.row ≡ 0 → ComesNext I.told O.told D.told result (arc_value turnstile.now) dials dials (W.faults crew.old) (W.faults crew.new) (known pass.old) (known pass.new) past.new }
     ensures stops { StopsAs result 0 (W.faults crew.old) (W.faults crew.new) }
     ensures kept { KeepsPair result (length past.old.pairs.items) (length past.new.pairs.items) }
+    ensures ports { ports_next D.told result ≡ ports_of D.told twins }
+    ensures order { (made : ℕ) → TellsOnly (I.told pair.link_in).number made
+        → NextInOrder I.told result made (numbers_of I.told past.old.pairs.items) (numbers_of I.told past.new.pairs.items) }
     ensures started { W.started crew.old ≤ W.started crew.new }
 {
     let Some(_) = enter(rt, turnstile, pass, &Input::Up) else {
@@ -419,6 +427,8 @@ where
     ensures next { ComesNext L.In.told L.Out.told D.told result (arc_value turnstile.now) (L.told dialer.old) (L.told dialer.new) (W.faults crew.old) (W.faults crew.new) (known pass.old) (known pass.new) past.new }
     ensures stops { StopsAs result (L.told dialer.new).row (W.faults crew.old) (W.faults crew.new) }
     ensures kept { KeepsAll result (length past.old.pairs.items) (length past.new.pairs.items) (L.made dialer.old) (L.made dialer.new) }
+    ensures ports { ports_next D.told result ≡ ports_of D.told twins }
+    ensures order { NextInOrder L.In.told result (L.made dialer.old) (numbers_of L.In.told past.old.pairs.items) (numbers_of L.In.told past.new.pairs.items) }
     ensures started { W.started crew.old ≤ W.started crew.new }
 {
     if past.pairs.len() >= MOST_LINKS {
@@ -476,6 +486,9 @@ where
     ensures next { ComesNext L.In.told L.Out.told D.told result (arc_value turnstile.now) (L.told dialer.old) (L.told dialer.new) (W.faults crew.old) (W.faults crew.new) (known pass.old) (known pass.new) past.new }
     ensures stops { StopsAs result (L.told dialer.new).row (W.faults crew.old) (W.faults crew.new) }
     ensures kept { KeepsAll result (length past.old.pairs.items + 1) (length past.new.pairs.items) (L.made dialer.old) (L.made dialer.new) }
+    ensures ports { ports_next D.told result ≡ ports_in D.told live.helper }
+    ensures order { NextInOrder L.In.told result (L.made dialer.old) (numbers_of L.In.told past.old.pairs.items ++ number_in L.In.told live.helper ∷ [])
+        (numbers_of L.In.told past.new.pairs.items) }
     ensures started { W.started crew.old ≤ W.started crew.new }
 {
     let (end, twins) = serve_link(rt, alloc, turnstile, pass, crew, live, past);
@@ -513,6 +526,9 @@ where
     ensures ends { Ends L.In.told L.Out.told D.told result.0 (L.told dialer.old) (L.told dialer.new) (Rose (W.faults crew.old) (W.faults crew.new)) (known pass.old) (known pass.new) result.1 past.new }
     ensures stops { StopsFor result.0 (L.told dialer.new).row (W.faults crew.old) (W.faults crew.new) }
     ensures kept { Keeps (length past.old.pairs.items + 1) (length past.new.pairs.items) (L.made dialer.old) (L.made dialer.new) }
+    ensures ports { ports_of D.told result.1 ≡ ports_in D.told first.helper }
+    ensures order { (made : ℕ) → InOrder made (numbers_of L.In.told past.old.pairs.items ++ number_in L.In.told first.helper ∷ [])
+        → L.made dialer.old ≡ counted made (length past.old.pairs.items + 1) → InOrder made (numbers_of L.In.told past.new.pairs.items) }
     ensures started { W.started crew.old ≤ W.started crew.new }
 {
     let mut live = first;

@@ -10,7 +10,7 @@ ghost use Rattle.server_workers.specs.SocketReading.{Hands, ReadsOnce, ReadsSock
 
 use crate::base::RunBase;
 use crate::heard::Heard;
-use crate::turns::{enter, is_final};
+use crate::turns::{enter, is_final, take_leave};
 use agent_events::{Input, Output};
 use radius_packet::Via;
 use std::alloc::Global;
@@ -186,7 +186,8 @@ fn count_failure<
     if counts.row < MOST_FAILURES {
         return false;
     }
-    let _ = answer(rt, turnstile, pass, socket, &Input::Leave);
+    let left = take_leave(rt, turnstile, pass);
+    send_replies(socket, left.outputs.as_slice());
     true
 }
 

@@ -1,7 +1,13 @@
 -- Entries go into a book and out of it.
-use Rattle.std.proofs.Common.{◌≡◌, ℕ, ◌+◌, ◌<◌, ◌⊎◌, inl, inr, Bool, true, false, cond, not, ◌&&◌, nat_eq, List, [], ◌∷◌, ◌++◌, length, Option, Some, None, refl, sym, ap, ◌∙◌, subst, arith}
+use Rattle.std.proofs.Common.{get_or, ◌≡◌, ℕ, ◌+◌, ◌<◌, ◌⊎◌, inl, inr, Bool, true, false, cond, not, ◌&&◌, nat_eq, List, [], ◌∷◌, ◌++◌, length, Option, Some, None, refl, sym, ap, ◌∙◌, subst, arith}
 use Rattle.std.specs.Prelude.{is_some, is_none, nat_lt, if◌then◌else◌}
+use Rattle.std.specs.List.{position, slice_get}
+use Rattle.std.specs.Map.{keys_of}
+use Rattle.std.specs.Prelude.{option_map}
 use Rattle.std.specs.Cmp.Lexicographic.{pointwise, bytes_decides}
+use Rattle.std.proofs.lemmas.List.Quantifiers.{position-Some}
+use Rattle.std.proofs.lemmas.Map.Entries.{length-keys_of}
+use Rattle.std.proofs.lemmas.Option.{get_or_from_slice_get, slice_get-map, slice_get_cases}
 use Rattle.session_book.specs.declared.sessions.Entry.{Entry}
 use Rattle.session_book.specs.Book.{Row, entry_of, without, appended}
 use Rattle.session_book.specs.Holding.{AreApart, Holds}
@@ -101,6 +107,29 @@ holds-without s kept new rows others size h = record {
       (count-of (entry_of s kept) (entry_of s rows) (length new) (length rows) (h.found s) (size ∙ h.count)) (count-without s rows h.apart);
   apart = apart-without s rows h.apart;
 }
+
+-- nothing goes where there is no entry
+pub removed-absent : (s : List ℕ) (kept : List Row) → entry_of s kept ≡ None → (q : List ℕ) → entry_of q kept ≡ cond (same s q) None (entry_of q kept)
+removed-absent s kept none q =
+    elim (same-or-differ s q) [
+      | inl f ↦ (let gone : entry_of q kept ≡ None = subst (λ x. entry_of x kept ≡ None) f none in
+          rw (gone) (still-none (same s q)))
+      | inr d ↦ rw (d.one) refl
+    ]
+
+-- the entry at the place of a session is under it
+pub named-at : (s : List ℕ) (kept : List Row) (i : ℕ) (r : Row) → position (same s) (keys_of kept) ≡ Some i → slice_get kept i ≡ Some r → r.0 ≡ s
+named-at s kept i r at is =
+    let named : slice_get (keys_of kept) i ≡ Some r.0 = slice_get-map (λ (e : Row). e.0) kept i ∙ ap (option_map (λ (e : Row). e.0)) is in
+    let equal : same s (get_or (keys_of kept) i r.0) ≡ true = (position-Some (same s) (keys_of kept) i r.0 at).1 in
+    sym ((bytes_decides s r.0).0 (subst (λ k. same s k ≡ true) (get_or_from_slice_get (keys_of kept) i r.0 r.0 named) equal))
+
+pub entry-there : (s : List ℕ) (kept : List Row) (i : ℕ) → position (same s) (keys_of kept) ≡ Some i → (r : Row) × (slice_get kept i ≡ Some r)
+entry-there s kept i at =
+    elim (slice_get_cases kept i).1 [
+      | inl w ↦ (w.0, w.2)
+      | inr w ↦ absurd (omega (arith, (position-Some (same s) (keys_of kept) i [] at).0, length-keys_of kept, w.0))
+    ]
 
 -- ---- one more
 

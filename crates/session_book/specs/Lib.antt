@@ -1,5 +1,6 @@
 pub mod Reasons
 pub mod KeyLaws
+pub mod Keys
 pub mod Book
 pub mod Holding
 pub mod Aborts

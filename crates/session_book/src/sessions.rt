@@ -1,6 +1,9 @@
 //! The entries of the book, by their sessions.
 
-ghost use Rattle.std.specs.Prelude.{◌≡◌, ◌<◌, ◌≤◌, [], List, ℕ, length, option_copied, IfOk, OnOk};
+ghost use Rattle.std.specs.Prelude.{◌≡◌, ◌<◌, ◌≤◌, [], List, ℕ, length, is_some, nat_eq, option_copied, IfOk, OnOk};
+ghost use Rattle.std.specs.List.{position};
+ghost use Rattle.std.specs.Map.{keys_of};
+ghost use Rattle.std.specs.Cmp.Lexicographic.{pointwise};
 ghost use Rattle.indexmap.specs.IndexMap.{spare};
 ghost use Rattle.session_book.specs.Book.{Row, appended, entry_of, without};
 ghost use Rattle.session_book.specs.Holding.{Holds};
@@ -24,7 +27,7 @@ pub struct Entry {
 /// The entries, each under its Session-Id. An entry goes in and out in the same time however many there are.
 #[derive(Drop)]
 pub struct Sessions {
-    pub(crate) map: IndexMap<SessionKey, Entry, RandomState>,
+    pub(crate) map: IndexMap<SessionKey<'static>, Entry, RandomState>,
 }
 
 impl Sessions {
@@ -44,10 +47,10 @@ impl Sessions {
     }
 
     /// The entry of this session.
-    pub(crate) fn get(&self, session: &[u8]) -> Option<&Entry>
+    pub(crate) fn get<'a>(&'a self, session: &'a [u8]) -> Option<&'a Entry>
         ensures { option_copied result ≡ entry_of session.now self.now.map.entries }
     {
-        self.map.get(session)
+        self.map.get(&SessionKey::lent(session))
     }
 
     /// Makes sure of the room for one more, which is there while there are fewer than the map was made for.
@@ -72,11 +75,21 @@ impl Sessions {
         }
     }
 
+    /// Where the entry of this session stands.
+    fn place_of(&self, session: &[u8]) -> Option<usize>
+        ensures place { result ≡ position (pointwise nat_eq session.now) (keys_of self.now.map.entries) }
+        ensures known { is_some result ≡ is_some (entry_of session.now self.now.map.entries) }
+    {
+        self.map.get_index_of(&SessionKey::lent(session))
+    }
+
     /// Drops the entry of a session, where it has one.
     pub(crate) fn remove(&mut self, session: &[u8])
         ensures { (rows : List Row) → Holds self.old.map.entries rows
             → Holds self.new.map.entries (without session.now rows) }
     {
-        self.map.swap_remove(session);
+        if let Some(place) = self.place_of(session) {
+            self.map.swap_remove_index(place);
+        }
     }
 }

@@ -6,7 +6,6 @@ ghost use Rattle.std.specs.Cmp.Lexicographic.{pointwise, nat_list_eq_equiv};
 ghost use Rattle.std.proofs.Common.{ap};
 ghost use Rattle.session_book.specs.KeyLaws.{hash_input, octets-equal};
 
-use indexmap::Equivalent;
 use std::alloc::Global;
 use std::hash::{Hash, Hasher};
 use std::marker::Model;
@@ -80,62 +79,79 @@ impl DisconnectRequest {
     }
 }
 
-/// A Session-Id as a key of the book. Contracts see it as the list of its octets.
 #[derive(Drop)]
-pub struct SessionKey {
-    octets: Octets,
+enum KeyOctets<'a> {
+    Kept(Octets),
+    Lent(&'a [u8]),
 }
 
-impl Model for SessionKey {
+/// A Session-Id as a key of the book, or one that is lent for a look-up. Contracts see it as the list of its octets.
+#[derive(Drop)]
+pub struct SessionKey<'a> {
+    octets: KeyOctets<'a>,
+}
+
+impl<'a> Model for SessionKey<'a> {
     ghost use Rattle.std.specs.Prelude.{List, ℕ};
+    ghost use Rattle.session_book.specs.Keys.{key_octets};
 
     ghost Value = { List ℕ };
 
-    ghost view = { λ k. k.octets };
+    ghost view = { λ k. key_octets k.octets };
 }
 
-impl SessionKey {
+impl<'a> SessionKey<'a> {
+    #[tactic(auto, unfolding(crate::specs::Keys::key_octets))]
+    fn kept(octets: Octets) -> SessionKey<'a>
+        ensures { result ≡ octets }
+    {
+        SessionKey {
+            octets: KeyOctets::Kept(octets),
+        }
+    }
+
+    /// One that is lent.
+    #[tactic(auto, unfolding(crate::specs::Keys::key_octets))]
+    pub(crate) fn lent(session: &'a [u8]) -> SessionKey<'a>
+        ensures { result ≡ session.now }
+    {
+        SessionKey {
+            octets: KeyOctets::Lent(session),
+        }
+    }
+
+    #[tactic(auto, unfolding(crate::specs::Keys::key_octets))]
     fn as_slice(&self) -> &[u8]
         ensures { result.now ≡ self.now }
     {
-        self.octets.as_slice()
+        match &self.octets {
+            KeyOctets::Kept(octets) => octets.as_slice(),
+            KeyOctets::Lent(octets) => octets,
+        }
     }
 }
 
-impl PartialEq for SessionKey {
+impl<'a> PartialEq for SessionKey<'a> {
     ghost eq = { pointwise nat_eq };
 
     ghost laws = { partial_equiv_from_equiv nat_list_eq_equiv };
 
-    fn eq(&self, other: &SessionKey) -> bool {
-        self.octets == other.octets
+    fn eq(&self, other: &SessionKey<'a>) -> bool {
+        self.as_slice() == other.as_slice()
     }
 }
 
-impl Eq for SessionKey {
+impl<'a> Eq for SessionKey<'a> {
     ghost laws = { nat_list_eq_equiv };
 }
 
-impl Hash for SessionKey {
-    // It is hashed as a slice is, by which it is looked for.
+impl<'a> Hash for SessionKey<'a> {
     ghost hash_input = { hash_input };
 
     ghost respects_eq = { λ k l e. ap hash_input (octets-equal k l e) };
 
     fn hash<H: Hasher>(&self, state: &mut H) {
         self.as_slice().hash(state)
-    }
-}
-
-impl Equivalent<SessionKey> for &[u8] {
-    ghost equivalent = { λ q. pointwise nat_eq q.now };
-
-    ghost respects_hash = { λ q k e. ap hash_input (octets-equal q.now k e) };
-
-    ghost respects_eq = { λ q. nat_list_eq_equiv.congr q.now };
-
-    fn equivalent(&self, key: &SessionKey) -> bool {
-        *self == key.as_slice()
     }
 }
 
@@ -154,15 +170,13 @@ impl SessionRoom {
     }
 
     /// The key of this session, which takes no memory.
-    pub(crate) fn filled(self, session: &[u8]) -> SessionKey
+    pub(crate) fn filled(self, session: &[u8]) -> SessionKey<'static>
         requires { length session.now ≤ 1024 }
         ensures { result ≡ session.now }
     {
         let SessionRoom { mut octets } = self;
         // There is room for it, so it is not refused.
         let _ = octets.extend_from_slice(session);
-        SessionKey {
-            octets: Octets::from_vec(octets),
-        }
+        SessionKey::kept(Octets::from_vec(octets))
     }
 }

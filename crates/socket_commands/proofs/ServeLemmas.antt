@@ -171,9 +171,9 @@ early-sound TooLong told until dials dials' twin start e links sockets threads =
 end-sound : (end : Status) (own turns : List RunTurn) (causes : List LinkCause) (auth acct dials : ℕ) (refused : Type 0) → Because end own turns causes auth acct dials refused
     → (dials ≡ 16 → ⊥) → ((auth ≡ 16) ⊎ (acct ≡ 16) → ⊥) → (refused → ⊥) → IsSoundEnd end
 end-sound Done own turns causes auth acct dials refused b links sockets threads = tt
-end-sound LinkFault own turns causes auth acct dials refused b links sockets threads = absurd (links b)
+end-sound LinkFault own turns causes auth acct dials refused b links sockets threads = absurd (links b.0)
 end-sound (PeerRefused code) own turns causes auth acct dials refused b links sockets threads = tt
-end-sound NoThread own turns causes auth acct dials refused b links sockets threads = absurd (threads b)
+end-sound NoThread own turns causes auth acct dials refused b links sockets threads = absurd (threads b.0)
 end-sound OutOfMemory own turns causes auth acct dials refused b links sockets threads = tt
 end-sound DatagramFault own turns causes auth acct dials refused b links sockets threads = absurd (sockets b)
 end-sound (LinkEnded cause) own turns causes auth acct dials refused b links sockets threads = tt

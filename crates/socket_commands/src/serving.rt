@@ -7,8 +7,8 @@ ghost use Rattle.agent_settings.specs.Config.{InLimits};
 ghost use Rattle.agent_config.specs.Settings.{settings_in};
 ghost use Rattle.agent_settings.specs.declared.fault.ConfigFault.{ConfigFault};
 ghost use Rattle.agent_server.specs.Desks.{HasRead};
-ghost use Rattle.agent_server.specs.Server.{HasTrail};
-ghost use Rattle.server_workers.specs.Running.{counted};
+ghost use Rattle.agent_server.specs.Server.{HasTrail, twins_of};
+ghost use Rattle.server_workers.specs.Running.{InOrder, counted, numbers_of, ports_of};
 ghost use Rattle.text_commands.specs.SettingsInput.{SettingsNot};
 ghost use Rattle.text_commands.specs.Tasks.{EndsCounts};
 ghost use Rattle.text_commands.specs.WholeInput.{most_whole};
@@ -103,6 +103,8 @@ where
     ensures home { result.home ≡ None }
     ensures trail { HasTrail result.trail (W.started world.crew) (W.started result.world.crew) }
     ensures links { IfSome result.trail (λ trail. L.made result.world.dialer ≡ counted (L.made world.dialer) (length trail.links)) }
+    ensures ports { IfSome result.trail (λ trail. ports_of D.told (twins_of trail) ≡ ((D.told world.auth).port, (D.told world.acct).port)) }
+    ensures order { IfSome result.trail (λ trail. InOrder (L.made world.dialer) (numbers_of L.In.told trail.links)) }
     ensures served { (before : List ℕ) → HasRead (C.readings world.clock) before []
         → IfSome result.trail (λ trail. RanFor C.readings D.told L.In.told L.Out.told config millis before
         (D.told world.auth) (D.told world.acct) (D.told result.world.auth) (D.told result.world.acct) (L.told world.dialer) (L.told result.world.dialer)
@@ -185,6 +187,8 @@ where
     ensures home { result.home ≡ None }
     ensures trail { HasTrail result.trail (W.started world.crew) (W.started result.world.crew) }
     ensures links { IfSome result.trail (λ trail. L.made result.world.dialer ≡ counted (L.made world.dialer) (length trail.links)) }
+    ensures ports { IfSome result.trail (λ trail. ports_of D.told (twins_of trail) ≡ ((D.told world.auth).port, (D.told world.acct).port)) }
+    ensures order { IfSome result.trail (λ trail. InOrder (L.made world.dialer) (numbers_of L.In.told trail.links)) }
     ensures served { (before : List ℕ) → HasRead (C.readings world.clock) before []
         → IfSome result.trail (λ trail. RanServer C.readings D.told L.In.told L.Out.told millis (S.left input.old) (S.left input.new) before
         (D.told world.auth) (D.told world.acct) (D.told result.world.auth) (D.told result.world.acct) (L.told world.dialer) (L.told result.world.dialer)

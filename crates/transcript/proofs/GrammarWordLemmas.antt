@@ -8,7 +8,7 @@ use Rattle.std.proofs.lemmas.Bool.{agree_below_at, and_parts, cond-false, cond-t
 use Rattle.std.proofs.lemmas.Bool.Decides.{nat_tests}
 use Rattle.std.proofs.lemmas.Fmt.{decimal-digits_value}
 use Rattle.std.proofs.lemmas.List.{length-map, map-append}
-use Rattle.std.proofs.lemmas.List.Elements.{All-append, All-from_get_or, All-head, All-same, All-tail, All-weaker}
+use Rattle.std.proofs.lemmas.List.Elements.{All-append, All-cons, All-from_get_or, All-head, All-nil, All-same, All-tail, All-weaker}
 use Rattle.std.proofs.lemmas.Option.{cond_some, same_Some}
 use Rattle.std.proofs.lemmas.Slice.Eq.{bytes_eq-Decides}
 use Rattle.wire_core.specs.Numbers.{AreOctets}
@@ -183,11 +183,12 @@ hex-read word (x ∷ octets) (small, lowered) =
     ∙ cond-false (eqb (length word) 0) _ _ (ne_eqb (length word) 0 (λ z. omega arith))
     ∙ ap result_ok (decode_of-even word (omega arith) ∙ pairs-read 0 word (x ∷ octets) small lowered)
 
--- a word of hex has no space in it
-pub hex-lacks : (word octets : List ℕ) → IsHex word octets → Lacks 32 word
-hex-lacks word [] is = All-same (λ y. y ≢ 32) word (codes "-") is (any-lacks 32 (codes "-") refl)
-hex-lacks word (x ∷ octets) (small, lowered) =
-    All-weaker (λ c. is_hex_digit c ≡ true) (λ c. c ≢ 32) (λ c digit e. cc digit) word
+-- a word of hex has '-' and digits alone in it
+pub hex-lacks : (c : ℕ) (word octets : List ℕ) → c ≢ 45 → is_hex_digit c ≡ false → IsHex word octets → Lacks c word
+hex-lacks c word [] dash none is =
+    All-same (λ y. y ≢ c) word (codes "-") is (All-cons (λ y. y ≢ c) 45 [] (λ e. dash (sym e)) (All-nil (λ y. y ≢ c)))
+hex-lacks c word (x ∷ octets) dash none (small, lowered) =
+    All-weaker (λ d. is_hex_digit d ≡ true) (λ d. d ≢ c) (λ d digit e. cc (digit, none, e)) word
     (decode_pairs-ok 0 word (x ∷ octets) (pairs-read 0 word (x ∷ octets) small lowered)).0
 
 encode-append : (xs ys : List ℕ) → encode_lower (xs ++ ys) ≡ encode_lower xs ++ encode_lower ys

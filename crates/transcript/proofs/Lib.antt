@@ -14,5 +14,7 @@ pub mod GrammarWordLemmas
 pub mod InputLemmas
 pub mod ReadingLemmas
 pub mod RecordLemmas
+pub mod RecordText
 pub mod SettingsLemmas
+pub mod SettingsLines
 pub mod TakingLemmas

@@ -29,7 +29,7 @@ event_next at told = record at { section = Events; stream = stream_after at.stre
 -- words without a space, and one of hex behind them
 pub hex-behind : (words : List (List ℕ)) (hex octets : List ℕ) → list_any (λ word. list_any (λ c. eqb c 32) word) words ≡ false
     → IsHex hex octets → All (Lacks 32) (words ++ hex ∷ [])
-hex-behind [] hex octets none is = All-cons (Lacks 32) hex [] (hex-lacks hex octets is) (All-nil (Lacks 32))
+hex-behind [] hex octets none is = All-cons (Lacks 32) hex [] (hex-lacks 32 hex octets (λ e. omega (arith, e)) refl is) (All-nil (Lacks 32))
 hex-behind (word ∷ words) hex octets none is =
     let (first, others) = or_parts (list_any (λ c. eqb c 32) word) (list_any (λ w. list_any (λ c. eqb c 32) w) words) none in
     All-cons (Lacks 32) word (words ++ hex ∷ []) (any-lacks 32 word first) (hex-behind words hex octets others is)

@@ -10,8 +10,9 @@ use Rattle.std.proofs.lemmas.List.Elements.{All-cons, All-head, All-nil, All-tai
 use Rattle.std.proofs.lemmas.List.Folds.{concat-append}
 use Rattle.wire_core.specs.Counts.{one_more}
 use Rattle.wire_core.specs.Numbers.{AreOctets, number, u32}
+use Rattle.wire_core.specs.Words.{is_identity_octet}
 use Rattle.wire_core.proofs.NumberLemmas.{number-u32}
-use Rattle.hex.specs.Hex.{IsBytes, encode_lower, lower_digits}
+use Rattle.hex.specs.Hex.{IsBytes, encode_lower, is_hex_digit, lower_digits}
 use Rattle.hex.proofs.HexLemmas.{decode_of-encode_lower, length-encode_with}
 use Rattle.radius_packet.specs.declared.reasons.Via.{Via}
 use Rattle.radius_packet.specs.declared.reasons.Via.TheVariants.{Auth, Acct}
@@ -33,7 +34,7 @@ use Rattle.transcript.specs.declared.happening.Happening.TheVariants as happenin
 use Rattle.transcript.specs.declared.line.Line.{Line}
 use Rattle.transcript.specs.declared.line.Line.TheVariants as line
 use Rattle.transcript.specs.declared.position.Section.TheVariants.{Start, Events}
-use Rattle.transcript.proofs.GrammarJoinLemmas.{address-lacks, any-lacks, decimal-lacks}
+use Rattle.transcript.proofs.GrammarJoinLemmas.{address-lacks, decimal-lacks}
 use Rattle.transcript.proofs.GrammarWordLemmas.{hex-lacks, hex-some}
 use Rattle.transcript.proofs.ReadingLemmas.{event-reads, event_next}
 
@@ -42,7 +43,7 @@ use Rattle.transcript.proofs.ReadingLemmas.{event-reads, event_next}
 hex-more : (x : ℕ) (octets : List ℕ) → hex_text (x ∷ octets) ≡ encode_lower (x ∷ octets)
 hex-more x octets = cond-false (eqb (length (x ∷ octets)) 0) _ _ (ne_eqb (length (x ∷ octets)) 0 (λ none. omega (arith, none)))
 
-hex-is : (octets : List ℕ) → IsBytes octets → IsHex (hex_text octets) octets
+pub hex-is : (octets : List ℕ) → IsBytes octets → IsHex (hex_text octets) octets
 hex-is [] are = refl
 hex-is (x ∷ octets) are =
     subst (λ word. IsHex word (x ∷ octets)) (sym (hex-more x octets))
@@ -54,14 +55,14 @@ bytes-at [] are i = omega arith
 bytes-at (x ∷ octets) are zero = All-head (λ x. x < 256) x octets are
 bytes-at (x ∷ octets) are (suc i) = bytes-at octets (All-tail (λ x. x < 256) x octets are) i
 
-bytes : (octets : List ℕ) → AreOctets octets → IsBytes octets
+pub bytes : (octets : List ℕ) → AreOctets octets → IsBytes octets
 bytes octets are = bytes-at octets are
 
-length-hex : (octets : List ℕ) → length (hex_text octets) ≤ 2 * length octets + 1
+pub length-hex : (octets : List ℕ) → length (hex_text octets) ≤ 2 * length octets + 1
 length-hex [] = omega arith
 length-hex (x ∷ octets) = omega (arith, ap length (hex-more x octets), length-encode_with lower_digits (x ∷ octets))
 
-address-is : (address : ℕ) → address < 2 ^ 32 → IsAddress (address_text address) address
+pub address-is : (address : ℕ) → address < 2 ^ 32 → IsAddress (address_text address) address
 unfolding u32
 address-is address small = (
   u32 address,
@@ -114,33 +115,62 @@ words-say input.Tick is = refl
 words-say input.Drain is = refl
 words-say input.Leave is = refl
 
--- none has a space,
-one-word : (word : List ℕ) → list_any (λ c. eqb c 32) word ≡ false → All (Lacks 32) (word ∷ [])
-one-word word none = All-cons (Lacks 32) word [] (any-lacks 32 word none) (All-nil (Lacks 32))
+-- an octet that no word has: a space, or the end of a line
+pub record IsNoWord (c : ℕ) : Type 0 where
+  pub low : c < 44
+  pub name : is_identity_octet c ≡ false
+  pub hex : is_hex_digit c ≡ false
 
-hex-word : (octets : List ℕ) → IsBytes octets → All (Lacks 32) (codes "link" ∷ hex_text octets ∷ [])
-hex-word octets are =
-    All-cons (Lacks 32) (codes "link") (hex_text octets ∷ []) (any-lacks 32 (codes "link") refl)
-    (All-cons (Lacks 32) (hex_text octets) [] (hex-lacks (hex_text octets) octets (hex-is octets are)) (All-nil (Lacks 32)))
+pub no-space : IsNoWord 32
+no-space = record { low = lit≤ tt; name = refl; hex = refl }
 
-via-lacks : (via : Via) → Lacks 32 (via_name via)
-via-lacks Auth = any-lacks 32 (codes "auth") refl
-via-lacks Acct = any-lacks 32 (codes "acct") refl
+pub no-end : IsNoWord 10
+no-end = record { low = lit≤ tt; name = refl; hex = refl }
 
-words-lack : (x : Input) → IsTellable x → All (Lacks 32) (input_words x)
-words-lack (input.Datagram via address port octets) (small, low, are, few) =
-    All-cons (Lacks 32) (via_name via) (address_text address ∷ decimal port ∷ hex_text octets ∷ []) (via-lacks via)
-    (All-cons (Lacks 32) (address_text address) (decimal port ∷ hex_text octets ∷ []) (address-lacks 32 (address_text address) address (lit≤ tt) (address-is address small))
-    (All-cons (Lacks 32) (decimal port) (hex_text octets ∷ []) (decimal-lacks 32 port (lit≤ tt) (omega (arith, low)))
-    (All-cons (Lacks 32) (hex_text octets) [] (hex-lacks (hex_text octets) octets (hex-is octets (bytes octets are))) (All-nil (Lacks 32)))))
-words-lack input.Up is = one-word (codes "up") refl
-words-lack input.Ready is = one-word (codes "ready") refl
-words-lack (input.Message octets) (are, frame) = hex-word octets (bytes octets are)
-words-lack (input.Broken fault) is = hex-word (fault_octets fault) (fault-bytes fault)
-words-lack input.Down is = one-word (codes "down") refl
-words-lack input.Tick is = one-word (codes "tick") refl
-words-lack input.Drain is = one-word (codes "drain") refl
-words-lack input.Leave is = one-word (codes "leave") refl
+-- no word has it,
+module _ (c : ℕ) (free : IsNoWord c) where
+  pub identity-lacks : (octets : List ℕ) → list_all is_identity_octet octets ≡ true → Lacks c octets
+  identity-lacks [] pass = All-nil (λ y. y ≢ c)
+  identity-lacks (x ∷ octets) pass =
+      let (first, others) = and_parts (is_identity_octet x) (list_all is_identity_octet octets) pass in
+      let none = free.name in
+      All-cons (λ y. y ≢ c) x octets (λ same. cc (ap is_identity_octet same, first, none)) (identity-lacks octets others)
+
+  pub octets-lack : (octets : List ℕ) → IsBytes octets → Lacks c (hex_text octets)
+  octets-lack octets are = hex-lacks c (hex_text octets) octets (λ e. omega (arith, e, free.low)) free.hex (hex-is octets are)
+
+  pub place-lacks : (address : ℕ) → address < 2 ^ 32 → Lacks c (address_text address)
+  place-lacks address small = address-lacks c (address_text address) address (omega (arith, free.low)) (address-is address small)
+
+  pub number-lacks : (n : ℕ) → n < 2 ^ 64 → Lacks c (decimal n)
+  number-lacks n small = decimal-lacks c n (omega (arith, free.low)) small
+
+  one-word : (word : List ℕ) → list_all is_identity_octet word ≡ true → All (Lacks c) (word ∷ [])
+  one-word word is = All-cons (Lacks c) word [] (identity-lacks word is) (All-nil (Lacks c))
+
+  hex-word : (octets : List ℕ) → IsBytes octets → All (Lacks c) (codes "link" ∷ hex_text octets ∷ [])
+  hex-word octets are =
+      All-cons (Lacks c) (codes "link") (hex_text octets ∷ []) (identity-lacks (codes "link") refl)
+      (All-cons (Lacks c) (hex_text octets) [] (octets-lack octets are) (All-nil (Lacks c)))
+
+  via-lacks : (via : Via) → Lacks c (via_name via)
+  via-lacks Auth = identity-lacks (codes "auth") refl
+  via-lacks Acct = identity-lacks (codes "acct") refl
+
+  pub words-lack : (x : Input) → IsTellable x → All (Lacks c) (input_words x)
+  words-lack (input.Datagram via address port octets) (small, low, are, few) =
+      All-cons (Lacks c) (via_name via) (address_text address ∷ decimal port ∷ hex_text octets ∷ []) (via-lacks via)
+      (All-cons (Lacks c) (address_text address) (decimal port ∷ hex_text octets ∷ []) (place-lacks address small)
+      (All-cons (Lacks c) (decimal port) (hex_text octets ∷ []) (number-lacks port (omega (arith, low)))
+      (All-cons (Lacks c) (hex_text octets) [] (octets-lack octets (bytes octets are)) (All-nil (Lacks c)))))
+  words-lack input.Up is = one-word (codes "up") refl
+  words-lack input.Ready is = one-word (codes "ready") refl
+  words-lack (input.Message octets) (are, frame) = hex-word octets (bytes octets are)
+  words-lack (input.Broken fault) is = hex-word (fault_octets fault) (fault-bytes fault)
+  words-lack input.Down is = one-word (codes "down") refl
+  words-lack input.Tick is = one-word (codes "tick") refl
+  words-lack input.Drain is = one-word (codes "drain") refl
+  words-lack input.Leave is = one-word (codes "leave") refl
 
 -- and they are few
 length-via : (via : Via) → length (via_name via) ≡ 4
@@ -150,7 +180,7 @@ length-via Acct = refl
 length-byte : (n : ℕ) → n < 256 → length (decimal n) ≤ 3
 length-byte n small = length-decimal-le 3 n (omega arith) (omega arith) (omega arith)
 
-length-address : (address : ℕ) → length (address_text address) ≤ 15
+pub length-address : (address : ℕ) → length (address_text address) ≤ 15
 unfolding u32
 length-address address =
     let a = address / 16777216 % 256 in
@@ -222,7 +252,7 @@ line-told : (at : At) (moment : ℕ) (x : Input) → at.section ≢ Start → mo
     → read_line at (join_with_byte 32 (event_words moment x)) ≡ Ok (line.Event (one_more at.lines) moment (inputs_of at.stream (told_as x)), event_next at (told_as x))
 line-told at moment x further small is =
     let brief : length (decimal moment) ≤ 20 = length-decimal-le 20 moment (omega arith) (omega (arith, small)) (omega (arith, small)) in
-    event-reads at moment (told_as x) (decimal moment) (input_words x) (refl, omega (arith, small)) (words-lack x is) (words-say x is) further
+    event-reads at moment (told_as x) (decimal moment) (input_words x) (refl, omega (arith, small)) (words-lack 32 no-space x is) (words-say x is) further
     (omega (arith, brief, words-short x is, ap length (join-more (decimal moment) x), length-append (decimal moment) (32 ∷ join_with_byte 32 (input_words x))))
 
 -- ---- the stream of the link

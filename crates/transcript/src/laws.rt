@@ -1,7 +1,7 @@
 //! Laws of transcripts, for all lines.
 
 ghost use Rattle.transcript.specs.Grammar.{LinesAreBadForAReason, LinesHaveAGrammar};
-ghost use Rattle.transcript.specs.Records.{EventLinesAreRead};
+ghost use Rattle.transcript.specs.Records.{EventLinesAreRead, RecordsAreTranscripts, SettingsLinesAreRead};
 ghost use Rattle.transcript.specs.Told.{LinesCanFollow};
 
 /// A line that was read can be followed, and the next one then too.
@@ -24,4 +24,14 @@ pub fn lines_are_bad_for_a_reason()
 /// Inputs that lines can tell are read again from their lines.
 pub fn event_lines_are_read()
     ensures { EventLinesAreRead }
+{}
+
+/// Settings that lines can tell are read again from their lines.
+pub fn settings_lines_are_read()
+    ensures { SettingsLinesAreRead }
+{}
+
+/// The lines of settings, and then those of inputs that lines can tell, are a transcript that says them.
+pub fn records_are_transcripts()
+    ensures { RecordsAreTranscripts }
 {}

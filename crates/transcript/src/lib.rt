@@ -15,6 +15,7 @@ mod settings;
 
 pub use laws::{
     event_lines_are_read, lines_are_bad_for_a_reason, lines_can_follow, lines_have_a_grammar,
+    records_are_transcripts, settings_lines_are_read,
 };
 pub use line::{Inputs, Line};
 pub use line_fault::LineFault;

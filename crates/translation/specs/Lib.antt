@@ -7,6 +7,7 @@ pub mod Faults
 pub mod Heads
 pub mod Images
 pub mod Judging
+pub mod Laws
 pub mod Names
 pub mod Passing
 pub mod Pushing

@@ -1,5 +1,6 @@
 pub mod Counts
 pub mod Forms
+pub mod Keys
 pub mod Numbers
 pub mod Sink
 pub mod Source

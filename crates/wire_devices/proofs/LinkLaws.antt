@@ -27,13 +27,13 @@ pub received-copied : (octets : List ℕ) (place n : ℕ) → Adds (Some (take p
 received-copied octets place n = record { still = λ ys told. ap Some (sym (take-add place n octets)) ∙ told }
 
 -- what a look brought
-pub brought : (octets buf front : List ℕ) (place n : ℕ) (looks looks' : List ℕ) (idle : Option ℕ) (ends : ℕ)
+pub brought : (octets buf front : List ℕ) (place n : ℕ) (looks looks' : List ℕ) (idle : Option ℕ) (ends : ℕ) (number : Option ℕ)
     → place + n ≤ length octets → n ≤ length buf → 0 < n → front ≡ take n (drop place octets)
     → Brought n
-    (told_of_stream (record { received = take place octets; left = drop place octets; looks = looks; idle = idle; ends = ends }) 0)
-    (told_of_stream (record { received = take (place + n) octets; left = drop (place + n) octets; looks = looks'; idle = idle; ends = ends }) 0)
+    (told_of_stream (record { received = take place octets; left = drop place octets; looks = looks; idle = idle; ends = ends; number = number }) 0)
+    (told_of_stream (record { received = take (place + n) octets; left = drop (place + n) octets; looks = looks'; idle = idle; ends = ends; number = number }) 0)
     (front ++ drop n buf)
-brought octets buf front place n looks looks' idle ends inside room some is =
+brought octets buf front place n looks looks' idle ends number inside room some is =
     let copied = front-copied octets buf front place n inside is in
     let long : length front ≡ n = ap length is ∙ length-take-le n (drop place octets) (omega (arith, length-drop place octets)) in
     record {
@@ -44,6 +44,7 @@ brought octets buf front place n looks looks' idle ends inside room some is =
       ends = record { rises = λ none. absurd (omega arith); stays = λ _. refl; never_falls = omega arith };
       idle = refl;
       faults = refl;
+      number = refl;
     }
 
 wrong : true ≡ false → ⊥
@@ -62,9 +63,9 @@ none_rose e = omega arith
 pub hears-counted : (got : LinkGot) (s t : Stream) (faults : ℕ) (buf : List ℕ)
     → Hears got (told_of_stream s 0) (told_of_stream t 0) buf → Hears got (told_of_stream s faults) (told_of_stream t faults) buf
 hears-counted (Bytes n) s t faults buf came =
-    record { within = came.within; received = came.received; left = came.left; end = came.end; ends = came.ends; idle = came.idle; faults = refl }
+    record { within = came.within; received = came.received; left = came.left; end = came.end; ends = came.ends; idle = came.idle; faults = refl; number = came.number }
 hears-counted Nothing s t faults buf none =
-    record { quiet = none.quiet; idle = none.idle; received = none.received; left = none.left; ends = none.ends; faults = refl }
+    record { quiet = none.quiet; idle = none.idle; received = none.received; left = none.left; ends = none.ends; faults = refl; number = none.number }
 hears-counted Ended s t faults buf ended =
-    record { end = ended.end; ends = ended.ends; received = ended.received; left = ended.left; idle = ended.idle; faults = refl }
+    record { end = ended.end; ends = ended.ends; received = ended.received; left = ended.left; idle = ended.idle; faults = refl; number = ended.number }
 hears-counted Failed s t faults buf failed = absurd (none_rose failed.faults)

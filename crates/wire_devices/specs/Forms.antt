@@ -61,6 +61,7 @@ told_of_post s faults row = record {
   idle = s.idle;
   faults = faults;
   row = row;
+  port = None;
 }
 
 -- what such a look answers, where there is so much room; what doesn't fit is lost
@@ -109,6 +110,7 @@ pub record Stream : Type 0 where
   pub looks : List ℕ
   pub idle : Option ℕ
   pub ends : ℕ
+  pub number : Option ℕ
 
 -- a look that finds nothing, though something may be left
 abbrev pub is_quiet : Option ℕ → Bool
@@ -129,10 +131,11 @@ told_of_stream s faults = record {
   idle = s.idle;
   ends = s.ends;
   faults = faults;
+  number = s.number;
 }
 
 abbrev pub fresh_stream : List ℕ → List ℕ → Stream
-fresh_stream octets looks = record { received = []; left = octets; looks = looks; idle = Some 0; ends = 0 }
+fresh_stream octets looks = record { received = []; left = octets; looks = looks; idle = Some 0; ends = 0; number = None }
 
 -- the end of a link of which some receives fail
 pub record PlannedStream : Type 0 where
@@ -179,8 +182,9 @@ pub record Script : Type 0 where
 abbrev pub empty_script : Script
 empty_script = record { octets = []; looks = []; room = 0 }
 
-abbrev pub made_of : Script → Stream × Wall
-made_of s = (fresh_stream s.octets s.looks, fresh_wall s.room)
+-- the n-th link of a dialer
+abbrev pub made_of : ℕ → Script → Stream × Wall
+made_of n s = (record (fresh_stream s.octets s.looks) { number = Some n }, fresh_wall s.room)
 
 -- a script with the receives and sends that are to fail
 pub record PlannedScript : Type 0 where
@@ -191,8 +195,8 @@ pub record PlannedScript : Type 0 where
 abbrev pub empty_planned_script : PlannedScript
 empty_planned_script = record { script = empty_script; receives = []; sends = [] }
 
-abbrev pub made_of_planned : PlannedScript → PlannedStream × PlannedWall
-made_of_planned s = (planned_stream s.script.octets s.script.looks s.receives, planned_wall s.script.room s.sends)
+abbrev pub made_of_planned : ℕ → PlannedScript → PlannedStream × PlannedWall
+made_of_planned n s = (record (planned_stream s.script.octets s.script.looks s.receives) { stream = record (fresh_stream s.script.octets s.script.looks) { number = Some n } }, planned_wall s.script.room s.sends)
 
 -- a dialer that never fails: what its coming links are made of, and how many it made
 pub record SteadyDials : Type 0 where
@@ -214,12 +218,22 @@ pub record PlannedStarts : Type 0 where
 
 -- the adapter of a socket: it tells nothing of content
 abbrev pub told_of_counts : Dials → Socket
-told_of_counts c = record { received = None; handed = None; ready = None; idle = None; faults = c.faults; row = c.row }
+told_of_counts c = record { received = None; handed = None; ready = None; idle = None; faults = c.faults; row = c.row; port = None }
+
+-- the same with the port that it was opened at, unless the system chose it
+pub record PortCounts : Type 0 where
+  pub port : Option ℕ
+  pub faults : ℕ
+  pub row : ℕ
+
+abbrev pub told_of_port : PortCounts → Socket
+told_of_port c = record { received = None; handed = None; ready = None; idle = None; faults = c.faults; row = c.row; port = c.port }
 
 -- the adapter of the end of a link that octets come from
 pub record EndCounts : Type 0 where
   pub faults : ℕ
   pub ends : ℕ
+  pub number : Option ℕ
 
 abbrev pub told_of_ends : EndCounts → Inlet
-told_of_ends c = record { received = None; left = None; ready = None; idle = None; ends = c.ends; faults = c.faults }
+told_of_ends c = record { received = None; left = None; ready = None; idle = None; ends = c.ends; faults = c.faults; number = c.number }

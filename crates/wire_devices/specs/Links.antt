@@ -10,7 +10,8 @@ use Rattle.wire_devices.specs.declared.devices.LinkGot.TheVariants.{Bytes, Nothi
 use Rattle.wire_devices.specs.Telling.{Adds, AddsPrefix, AddsOne, TellsOnly, MayBeQuiet}
 
 -- The octets that were received, in order, and those that are still to come; whether the next look finds one; the looks
--- that found none; the receives that were Ended or gave no octet; those that failed
+-- that found none; the receives that were Ended or gave no octet; those that failed; and which of its dialer's links it is,
+-- counted from 0, which stays
 pub record Inlet : Type 0 where
   pub received : Option (List ℕ)
   pub left : Option (List ℕ)
@@ -18,6 +19,7 @@ pub record Inlet : Type 0 where
   pub idle : Option ℕ
   pub ends : ℕ
   pub faults : ℕ
+  pub number : Option ℕ
 
 -- A receive gave the first octets of the buffer, so many. None counts as an end, and is one unless the buffer is empty.
 pub record Brought (count : ℕ) (before now : Inlet) (buf : List ℕ) : Type 0 where
@@ -28,6 +30,7 @@ pub record Brought (count : ℕ) (before now : Inlet) (buf : List ℕ) : Type 0 
   pub ends : Counts (count ≡ 0) before.ends now.ends
   pub idle : now.idle ≡ before.idle
   pub faults : now.faults ≡ before.faults
+  pub number : now.number ≡ before.number
 
 -- a receive looked, and no octet was there
 pub record HeardNone (before now : Inlet) : Type 0 where
@@ -37,6 +40,7 @@ pub record HeardNone (before now : Inlet) : Type 0 where
   pub left : now.left ≡ before.left
   pub ends : now.ends ≡ before.ends
   pub faults : now.faults ≡ before.faults
+  pub number : now.number ≡ before.number
 
 -- nothing is left
 pub record HeardTheEnd (before now : Inlet) : Type 0 where
@@ -46,6 +50,7 @@ pub record HeardTheEnd (before now : Inlet) : Type 0 where
   pub left : now.left ≡ before.left
   pub idle : now.idle ≡ before.idle
   pub faults : now.faults ≡ before.faults
+  pub number : now.number ≡ before.number
 
 -- a receive failed
 pub record FailedToHear (before now : Inlet) : Type 0 where
@@ -54,6 +59,7 @@ pub record FailedToHear (before now : Inlet) : Type 0 where
   pub left : now.left ≡ before.left
   pub idle : now.idle ≡ before.idle
   pub ends : now.ends ≡ before.ends
+  pub number : now.number ≡ before.number
 
 -- some octets, and no more than so many
 abbrev pub Within : LinkGot → ℕ → Type 0

@@ -9,7 +9,8 @@ use Rattle.wire_devices.specs.declared.devices.Took.TheVariants.{From, Nothing, 
 use Rattle.wire_devices.specs.Telling.{Adds, AddsOne, TellsOnly, MayBeQuiet}
 
 -- The datagrams that were received and those that `send` was handed, each in order; whether the next look finds one;
--- the looks that found none; the calls that failed; the receives that failed since the last one that didn't, up to 16
+-- the looks that found none; the calls that failed; the receives that failed since the last one that didn't, up to 16;
+-- and the port that it is at, which stays
 pub record Socket : Type 0 where
   pub received : Option (List Datagram)
   pub handed : Option (List Datagram)
@@ -17,6 +18,7 @@ pub record Socket : Type 0 where
   pub idle : Option ℕ
   pub faults : ℕ
   pub row : ℕ
+  pub port : Option ℕ
 
 abbrev pub datagram : ℕ → ℕ → List ℕ → Datagram
 datagram a p octets = record { address = a; port = p; octets = octets }
@@ -32,6 +34,7 @@ pub record Gave (before now : Socket) (d : Datagram) : Type 0 where
   pub handed : now.handed ≡ before.handed
   pub idle : now.idle ≡ before.idle
   pub faults : now.faults ≡ before.faults
+  pub port : now.port ≡ before.port
 
 -- a receive looked, and no datagram was there
 pub record FoundNone (before now : Socket) : Type 0 where
@@ -41,6 +44,7 @@ pub record FoundNone (before now : Socket) : Type 0 where
   pub received : now.received ≡ before.received
   pub handed : now.handed ≡ before.handed
   pub faults : now.faults ≡ before.faults
+  pub port : now.port ≡ before.port
 
 -- a receive failed
 pub record FailedToReceive (before now : Socket) : Type 0 where
@@ -49,6 +53,7 @@ pub record FailedToReceive (before now : Socket) : Type 0 where
   pub received : now.received ≡ before.received
   pub handed : now.handed ≡ before.handed
   pub idle : now.idle ≡ before.idle
+  pub port : now.port ≡ before.port
 
 -- a datagram has at most so many octets
 abbrev pub Fits : Took → ℕ → Type 0
@@ -70,6 +75,7 @@ pub record Sends (put : Put) (before now : Socket) (d : Datagram) : Type 0 where
   pub received : now.received ≡ before.received
   pub ready : now.ready ≡ before.ready
   pub idle : now.idle ≡ before.idle
+  pub port : now.port ≡ before.port
 
 -- a twin was made of the socket, or refused, and nothing of the socket changed but the count of faults
 pub record Twinned (refused : Type 0) (before now : Socket) : Type 0 where
@@ -79,6 +85,7 @@ pub record Twinned (refused : Type 0) (before now : Socket) : Type 0 where
   pub handed : now.handed ≡ before.handed
   pub ready : now.ready ≡ before.ready
   pub idle : now.idle ≡ before.idle
+  pub port : now.port ≡ before.port
 
 -- nothing was received yet, nothing was handed in, and nothing failed
 pub record IsFreshSocket (s : Socket) : Type 0 where

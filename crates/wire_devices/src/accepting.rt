@@ -1,6 +1,6 @@
 //! A dialer that is dialled: it accepts one connection.
 
-ghost use Rattle.std.specs.Prelude.{◌≡◌, IfOk};
+ghost use Rattle.std.specs.Prelude.{◌≡◌, None, IfOk};
 ghost use Rattle.wire_devices.specs.Dialling.{no_dials};
 
 use crate::devices::Dialer;
@@ -75,10 +75,11 @@ impl<R: Wait + rt::Clock + Copy> Dialer for TcpAccepter<R> {
 
     fn dial(&mut self) -> Option<(TcpIn, TcpOut<R>)> {
         match accept(self.rt, self.listener.take()) {
-            Ok(ends) => {
+            Ok((link_in, link_out)) => {
                 self.row = 0;
+                let number = self.made;
                 self.made = self.made.saturating_add(1);
-                Some(ends)
+                Some((link_in.numbered(number), link_out))
             }
             Err(_) => {
                 self.faults = self.faults.saturating_add(1);
@@ -90,7 +91,7 @@ impl<R: Wait + rt::Clock + Copy> Dialer for TcpAccepter<R> {
 }
 
 fn accept<R: Copy>(rt: R, listener: Option<TcpListener>) -> io::Result<(TcpIn, TcpOut<R>)>
-    ensures { IfOk result (λ ends. (ends.0 ≡ record { faults = 0; ends = 0 }) × (ends.1 ≡ 0)) }
+    ensures { IfOk result (λ ends. (ends.0 ≡ record { faults = 0; ends = 0; number = None }) × (ends.1 ≡ 0)) }
 {
     let Some(listener) = listener else {
         return Err(io::Error::from(ErrorKind::NotConnected));

@@ -2,7 +2,7 @@
 
 ghost use Rattle.std.specs.Prelude.{◌≡◌, ℕ, List, [], ◌∷◌, Option, IfSome, IsNone, IsSome};
 ghost use Rattle.wire_core.specs.Counts.{Counts};
-ghost use Rattle.wire_devices.specs.Telling.{Adds};
+ghost use Rattle.wire_devices.specs.Telling.{Adds, TellsOnly};
 ghost use Rattle.wire_devices.specs.Sockets.{Socket, datagram, Receives, Sends, Twinned, IsFreshSocket};
 ghost use Rattle.wire_devices.specs.Links.{Inlet, Outlet, Hears, Speaks, IsFreshInlet, IsFreshOutlet};
 ghost use Rattle.wire_devices.specs.Dialling.{Dials, Dialled};
@@ -59,6 +59,7 @@ pub trait Datagrams {
     /// A socket that sends from the same port. None counts as a fault.
     fn twin(&mut self) -> Option<Self>
         ensures fresh { IfSome result (λ twin. IsFreshSocket (told twin)) }
+        ensures port { IfSome result (λ twin. (told twin).port ≡ (told self.old).port) }
         ensures twinned { Twinned (IsNone result) (told self.old) (told self.new) };
 }
 
@@ -119,5 +120,6 @@ pub trait Dialer {
     fn dial(&mut self) -> Option<(Self::In, Self::Out)>
         ensures fresh { IfSome result (λ ends. IsFreshInlet (Self.In.told ends.0) × IsFreshOutlet (Self.Out.told ends.1)) }
         ensures dialled { Dialled result (told self.old) (told self.new) }
+        ensures numbered { IfSome result (λ ends. TellsOnly (Self.In.told ends.0).number (made self.old)) }
         ensures counted { Counts (IsSome result) (made self.old) (made self.new) };
 }

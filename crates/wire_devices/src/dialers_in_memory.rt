@@ -3,6 +3,7 @@
 ghost use Rattle.std.specs.Prelude.{◌≡◌, Some, None, drop, slice_get, unwrap_or, vec_capacity, if◌then◌else◌, IfSome, IsSome};
 ghost use Rattle.wire_core.specs.Counts.{Counts};
 ghost use Rattle.wire_devices.specs.Links.{IsFreshInlet, IsFreshOutlet};
+ghost use Rattle.wire_devices.specs.Telling.{TellsOnly};
 ghost use Rattle.wire_devices.specs.Dialling.{Dialled};
 ghost use Rattle.wire_devices.specs.Forms.{plan_of, is_due, next_call, made_of, made_of_planned, empty_script, empty_planned_script, told_of_stream, told_of_wall, told_of_planned_stream, told_of_planned_wall};
 
@@ -99,12 +100,14 @@ impl Dialer for SteadyDialer {
     ghost made = { λ d. d.made };
 
     fn dial(&mut self) -> Option<(SteadyLinkIn, SteadyLinkOut)>
-        ensures link { result ≡ Some (made_of (unwrap_or (slice_get self.old.lines 0) empty_script)) }
+        ensures link { result ≡ Some (made_of self.old.made (unwrap_or (slice_get self.old.lines 0) empty_script)) }
         ensures lines { self.new.lines ≡ drop 1 self.old.lines }
         ensures counted { Counts (IsSome result) self.old.made self.new.made }
         ensures fresh { IfSome result (λ ends. IsFreshInlet (told_of_stream ends.0 0) × IsFreshOutlet (told_of_wall ends.1 0)) }
         ensures dialled { Dialled result (record { faults = 0; row = 0 }) (record { faults = 0; row = 0 }) }
+        ensures numbered { IfSome result (λ ends. TellsOnly (told_of_stream ends.0 0).number self.old.made) }
     {
+        let number = self.made;
         self.made = self.made.saturating_add(1);
         let line = self.next_line();
         let SteadyLine {
@@ -112,7 +115,8 @@ impl Dialer for SteadyDialer {
             looks,
             room,
         } = line;
-        Some((SteadyLinkIn::new(octets, looks), SteadyLinkOut::new(room)))
+        let link_in = SteadyLinkIn::new(octets, looks).numbered(number);
+        Some((link_in, SteadyLinkOut::new(room)))
     }
 }
 
@@ -210,11 +214,12 @@ impl Dialer for MemoryDialer {
     ghost made = { λ d. d.made };
 
     fn dial(&mut self) -> Option<(MemoryLinkIn, MemoryLinkOut)>
-        ensures link { result ≡ (if is_due self.old.dials then None else Some (made_of_planned (unwrap_or (slice_get self.old.lines 0) empty_planned_script))) }
+        ensures link { result ≡ (if is_due self.old.dials then None else Some (made_of_planned self.old.made (unwrap_or (slice_get self.old.lines 0) empty_planned_script))) }
         ensures lines { self.new.lines ≡ (if is_due self.old.dials then self.old.lines else drop 1 self.old.lines) }
         ensures plan { self.new.dials ≡ next_call self.old.dials }
         ensures fresh { IfSome result (λ ends. IsFreshInlet (told_of_planned_stream ends.0) × IsFreshOutlet (told_of_planned_wall ends.1)) }
         ensures dialled { Dialled result self.old.told self.new.told }
+        ensures numbered { IfSome result (λ ends. TellsOnly (told_of_planned_stream ends.0).number self.old.made) }
         ensures counted { Counts (IsSome result) self.old.made self.new.made }
     {
         if self.dials.fails() {
@@ -223,6 +228,7 @@ impl Dialer for MemoryDialer {
             return None;
         }
         self.row = 0;
+        let number = self.made;
         self.made = self.made.saturating_add(1);
         let line = self.next_line();
         let Line {
@@ -235,9 +241,7 @@ impl Dialer for MemoryDialer {
             looks,
             room,
         } = line;
-        Some((
-            MemoryLinkIn::new(octets, looks, failing_receives),
-            MemoryLinkOut::new(room, failing_sends),
-        ))
+        let link_in = MemoryLinkIn::new(octets, looks, failing_receives).numbered(number);
+        Some((link_in, MemoryLinkOut::new(room, failing_sends)))
     }
 }

@@ -1,6 +1,6 @@
 //! A dialer over std's stream.
 
-ghost use Rattle.std.specs.Prelude.{◌≡◌, IfOk};
+ghost use Rattle.std.specs.Prelude.{◌≡◌, None, IfOk};
 ghost use Rattle.wire_devices.specs.Dialling.{no_dials};
 
 use crate::devices::Dialer;
@@ -93,12 +93,13 @@ impl<R: Net<Listener = TcpListener, Stream = TcpStream> + Wait + rt::Clock + Cop
     fn dial(&mut self) -> Option<(TcpIn, TcpOut<R>)> {
         let waker = self.waker.as_ref().and_then(|waker| waker.another());
         match connect(self.rt, self.address, self.port, waker) {
-            Ok(ends) => {
+            Ok((link_in, link_out)) => {
                 self.pause = SHORT_PAUSE;
                 self.refusal = None;
                 self.row = 0;
+                let number = self.made;
                 self.made = self.made.saturating_add(1);
-                Some(ends)
+                Some((link_in.numbered(number), link_out))
             }
             Err(error) => {
                 self.refusal = Some(error.kind());
@@ -118,7 +119,7 @@ fn connect<R: Net<Listener = TcpListener, Stream = TcpStream> + Copy>(
     port: u16,
     waker: Option<Waker>,
 ) -> io::Result<(TcpIn, TcpOut<R>)>
-    ensures { IfOk result (λ ends. (ends.0 ≡ record { faults = 0; ends = 0 }) × (ends.1 ≡ 0)) }
+    ensures { IfOk result (λ ends. (ends.0 ≡ record { faults = 0; ends = 0; number = None }) × (ends.1 ≡ 0)) }
 {
     let place = SocketAddr::new(IpAddr::V4(Ipv4Addr::from(address)), port);
     let stream = TcpStream::connect_timeout(&rt, &place, Duration::from_millis(PATIENCE))?;

@@ -19,6 +19,8 @@ pub struct SteadyLinkIn {
     looks: VecDeque<usize>,
     idle: Option<u64>,
     ends: u64,
+    /// Which of a dialer's links it is.
+    number: Option<u64>,
 }
 
 impl Model for SteadyLinkIn {
@@ -33,6 +35,7 @@ impl Model for SteadyLinkIn {
       looks = s.looks.items;
       idle = s.idle;
       ends = s.ends;
+      number = s.number;
     } };
 
     ghost invariant = { λ s. s.place ≤ length s.octets.items };
@@ -50,7 +53,16 @@ impl SteadyLinkIn {
             looks,
             idle: Some(0),
             ends: 0,
+            number: None,
         }
+    }
+
+    /// The same end, as that of a dialer's link, counted from 0.
+    pub(crate) fn numbered(mut self, number: u64) -> SteadyLinkIn
+        ensures { result ≡ record self { number = Some number } }
+    {
+        self.number = Some(number);
+        self
     }
 }
 
@@ -121,6 +133,14 @@ impl MemoryLinkIn {
             receives: CallPlan::new(failing),
             faults: 0,
         }
+    }
+
+    /// The same end, as that of a dialer's link, counted from 0.
+    pub(crate) fn numbered(mut self, number: u64) -> MemoryLinkIn
+        ensures { result ≡ record self { stream = record self.stream { number = Some number } } }
+    {
+        self.link = self.link.numbered(number);
+        self
     }
 }
 

@@ -116,6 +116,7 @@ impl Datagrams for SteadyDatagrams {
         ensures twin { result ≡ Some (fresh_post []) }
         ensures same { self.new ≡ self.old }
         ensures fresh { IfSome result (λ twin. IsFreshSocket (told_of_post twin 0 0)) }
+        ensures port { IfSome result (λ twin. (told_of_post twin 0 0).port ≡ (told_of_post self.old 0 0).port) }
         ensures twinned { Twinned (IsNone result) (told_of_post self.old 0 0) (told_of_post self.new 0 0) }
     {
         Some(SteadyDatagrams::new(self.alloc, VecDeque::new(self.alloc)))
@@ -264,6 +265,7 @@ impl Datagrams for MemoryDatagrams {
         ensures post { self.new.post ≡ self.old.post }
         ensures plans { (self.new.receives ≡ self.old.receives) × (self.new.sends ≡ self.old.sends) × (self.new.twins ≡ next_call self.old.twins) }
         ensures fresh { IfSome result (λ twin. IsFreshSocket (told_of_planned_post twin)) }
+        ensures port { IfSome result (λ twin. (told_of_planned_post twin).port ≡ (told_of_planned_post self.old).port) }
         ensures twinned { Twinned (IsNone result) (told_of_planned_post self.old) (told_of_planned_post self.new) }
     {
         if self.twins.fails() {

@@ -1,6 +1,6 @@
 //! std's stream as the two ends of a link. They tell nothing of content.
 
-ghost use Rattle.std.specs.Prelude.{◌≡◌, None, length, IfOk};
+ghost use Rattle.std.specs.Prelude.{◌≡◌, None, Some, length, IfOk};
 ghost use Rattle.wire_devices.specs.Links.{Within};
 ghost use Rattle.wire_devices.specs.Forms.{told_of_ends};
 
@@ -33,6 +33,8 @@ pub struct TcpIn {
     stream: TcpStream,
     faults: u64,
     ends: u64,
+    /// Which of a dialer's links it is.
+    number: Option<u64>,
 }
 
 impl Model for TcpIn {
@@ -40,7 +42,17 @@ impl Model for TcpIn {
 
     ghost Value = { EndCounts };
 
-    ghost view = { λ s. record { faults = s.faults; ends = s.ends } };
+    ghost view = { λ s. record { faults = s.faults; ends = s.ends; number = s.number } };
+}
+
+impl TcpIn {
+    /// The same end, as that of a dialer's link, counted from 0.
+    pub(crate) fn numbered(mut self, number: u64) -> TcpIn
+        ensures { result ≡ record self { number = Some number } }
+    {
+        self.number = Some(number);
+        self
+    }
 }
 
 impl LinkIn for TcpIn {
@@ -142,7 +154,7 @@ pub(crate) fn ends_of<R: Copy>(
     stream: TcpStream,
     waker: Option<Waker>,
 ) -> io::Result<(TcpIn, TcpOut<R>)>
-    ensures { IfOk result (λ ends. (ends.0 ≡ record { faults = 0; ends = 0 }) × (ends.1 ≡ 0)) }
+    ensures { IfOk result (λ ends. (ends.0 ≡ record { faults = 0; ends = 0; number = None }) × (ends.1 ≡ 0)) }
 {
     stream.set_nodelay(true)?;
     stream.set_read_timeout(Some(Duration::from_millis(LOOK)))?;
@@ -152,6 +164,7 @@ pub(crate) fn ends_of<R: Copy>(
         stream,
         faults: 0,
         ends: 0,
+        number: None,
     };
     let link_out = TcpOut {
         rt,

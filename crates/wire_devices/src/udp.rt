@@ -1,8 +1,8 @@
-//! std's socket for datagrams. It tells nothing of content: what the network gives and takes is trusted, and so are these
+//! std's socket for datagrams. It tells the port that it was opened at, and nothing of content: what the network gives and takes is trusted, and so are these
 //! few lines.
 
-ghost use Rattle.std.specs.Prelude.{◌≡◌, length, IfOk};
-ghost use Rattle.wire_devices.specs.Forms.{told_of_counts};
+ghost use Rattle.std.specs.Prelude.{◌≡◌, ◌==◌, if◌then◌else◌, length, None, Some, IfOk};
+ghost use Rattle.wire_devices.specs.Forms.{told_of_port};
 ghost use Rattle.wire_devices.specs.Sockets.{Fits};
 
 use crate::devices::{Datagrams, Took};
@@ -24,15 +24,17 @@ pub struct UdpDatagrams {
     waker: Option<Waker>,
     faults: u64,
     row: u8,
+    /// The port that it was opened at, unless the system chose it.
+    port: Option<u16>,
 }
 
 impl Model for UdpDatagrams {
     ghost use Rattle.std.specs.Prelude.{◌≤◌};
-    ghost use Rattle.wire_devices.specs.Dialling.{Dials};
+    ghost use Rattle.wire_devices.specs.Forms.{PortCounts};
 
-    ghost Value = { Dials };
+    ghost Value = { PortCounts };
 
-    ghost view = { λ s. record { faults = s.faults; row = s.row } };
+    ghost view = { λ s. record { port = s.port; faults = s.faults; row = s.row } };
 
     ghost invariant = { λ s. s.row ≤ 16 };
 }
@@ -40,18 +42,19 @@ impl Model for UdpDatagrams {
 impl UdpDatagrams {
     /// A socket at this address and port, or why the system opens none. Port 0 is one that the system chooses.
     pub fn bind<R: Net>(net: &R, address: u32, port: u16) -> io::Result<UdpDatagrams>
-        ensures { IfOk result (λ socket. socket ≡ record { faults = 0; row = 0 }) }
+        ensures { IfOk result (λ socket. socket ≡ record { port = if port == 0 then None else Some port; faults = 0; row = 0 }) }
     {
         let socket = UdpSocket::bind(net, (Ipv4Addr::from(address), port))?;
         socket.set_read_timeout(Some(Duration::from_millis(LOOK)))?;
-        Ok(UdpDatagrams::over(Some(socket)))
+        let own = if port == 0 { None } else { Some(port) };
+        Ok(UdpDatagrams::over(Some(socket), own))
     }
 
     /// A socket that isn't opened.
     pub fn closed() -> UdpDatagrams
-        ensures { result ≡ record { faults = 0; row = 0 } }
+        ensures { result ≡ record { port = None; faults = 0; row = 0 } }
     {
-        UdpDatagrams::over(None)
+        UdpDatagrams::over(None, None)
     }
 
     /// The same socket, which wakes this before each look: what the look before found may have been entered since.
@@ -62,20 +65,21 @@ impl UdpDatagrams {
         self
     }
 
-    fn over(socket: Option<UdpSocket>) -> UdpDatagrams
-        ensures { result ≡ record { faults = 0; row = 0 } }
+    fn over(socket: Option<UdpSocket>, port: Option<u16>) -> UdpDatagrams
+        ensures { result ≡ record { port = port; faults = 0; row = 0 } }
     {
         UdpDatagrams {
             socket,
             waker: None,
             faults: 0,
             row: 0,
+            port,
         }
     }
 }
 
 impl Datagrams for UdpDatagrams {
-    ghost told = { told_of_counts };
+    ghost told = { told_of_port };
 
     fn receive(&mut self, buf: &mut [u8]) -> Took {
         if let Some(waker) = &self.waker {
@@ -116,7 +120,7 @@ impl Datagrams for UdpDatagrams {
 
     fn twin(&mut self) -> Option<UdpDatagrams> {
         match twin_of(&self.socket) {
-            Some(twin) => Some(UdpDatagrams::over(Some(twin))),
+            Some(twin) => Some(UdpDatagrams::over(Some(twin), self.port)),
             None => {
                 self.faults = self.faults.saturating_add(1);
                 None

@@ -324,11 +324,12 @@ pub(super) struct WaitingIn {
 }
 
 impl Model for WaitingIn {
+    ghost use Rattle.std.specs.Prelude.{None};
     ghost use Rattle.wire_devices.specs.Forms.{EndCounts};
 
     ghost Value = { EndCounts };
 
-    ghost view = { λ s. record { faults = s.faults; ends = s.ends } };
+    ghost view = { λ s. record { faults = s.faults; ends = s.ends; number = None } };
 }
 
 /// What a look finds, with what is owed then.

@@ -1,5 +1,6 @@
 use Rattle.std.proofs.Common.{inl, arith}
 use Rattle.turnstile.specs.Passes.{known}
+use Rattle.server_workers.proofs.LinkOverLemmas.{same-ports}
 use Rattle.agent_server.proofs.StartingLemmas.{dial-finished, first-opened}
 use Rattle.agent_server.proofs.server.first_link.Goals as goal
 
@@ -18,3 +19,6 @@ pub returns-in-Failed-clause-failed : goal.returns-in-Failed-clause-failed
 returns-in-Failed-clause-failed g c =
     let (mine, went, dialled) = c.in-Failed.ensures.dialled in
     (dialled.failed (omega (arith, c.requires.row, dialled.ends)), inl dialled.ends)
+
+pub returns-clause-ports : goal.returns-clause-ports
+returns-clause-ports g c = same-ports c.in-Some-twin.ensures.port c.in-Some-twin-2.ensures.port

@@ -2,7 +2,7 @@ use Rattle.std.proofs.Common.{Ok, ◌∙◌, length, arith}
 use Rattle.std.specs.Arc.{arc_value}
 use Rattle.turnstile.specs.Passes.{known}
 use Rattle.agent_server.proofs.BackLemmas.{back-at, reader-worker}
-use Rattle.agent_server.proofs.ConcludingLemmas.{all-done, kept-links}
+use Rattle.agent_server.proofs.ConcludingLemmas.{all-done, kept-links, order-at, twins-at}
 use Rattle.agent_server.proofs.server.lead.Goals as goal
 
 pub socket_ran-auth-requires-clause-worker : goal.socket_ran-auth-requires-clause-worker
@@ -32,3 +32,10 @@ returns-clause-kept g c =
 
 pub returns-clause-started : goal.returns-clause-started
 returns-clause-started g c = omega (arith, c.serve_links-end.ensures.started, c.socket_ran-auth.ensures.started, c.socket_ran-acct.ensures.started)
+
+pub returns-clause-ports : goal.returns-clause-ports
+returns-clause-ports g c = twins-at g.D.Datagrams.told c.conclude.result.trail c.serve_links-end.result.1 _ c.conclude.ensures.twins c.serve_links-end.ensures.ports
+
+pub returns-clause-order : goal.returns-clause-order
+returns-clause-order g c = λ made ordered is.
+    order-at g.L.In.LinkIn.told c.conclude.result.trail c.serve_links-end.new.past.pairs.items made c.conclude.ensures.links (c.serve_links-end.ensures.order made ordered is)

@@ -1,8 +1,8 @@
-use Rattle.std.proofs.Common.{◌∙◌, length}
+use Rattle.std.proofs.Common.{◌∙◌, ap, arith, length}
 use Rattle.std.specs.Arc.{arc_value}
 use Rattle.radius_packet.specs.declared.reasons.Via.TheVariants.{Auth, Acct}
 use Rattle.turnstile.specs.Passes.{known}
-use Rattle.agent_server.proofs.ConcludingLemmas.{links-all}
+use Rattle.agent_server.proofs.ConcludingLemmas.{first-in-order, link-ports, links-all, ports-on}
 use Rattle.agent_server.proofs.StartingLemmas.{carries-same, ends-early, link-started, has-trail, if-none, read-began, reader-at, reader-starts, rose-same, served-from}
 use Rattle.agent_server.proofs.server.run.Goals as goal
 
@@ -84,3 +84,18 @@ returns-clause-began g c = λ base carries.
     if-none c.disband.result.trail _
     (c.disband.ensures.began base (carries-same g.C.Clock.readings (known c.args.stand.pass) (known c.start_workers.new.pass) base
     (c.in-Err-start_workers.ensures.same.1 ∙ c.first_link.ensures.same.0) carries))
+
+pub returns-in-Ok-start_workers-clause-ports : goal.returns-in-Ok-start_workers-clause-ports
+returns-in-Ok-start_workers-clause-ports g c =
+    let told = g.D.Datagrams.told in
+    let team = c.in-Ok-start_workers.team in
+    ports-on told c.lead.result.trail _ _ c.lead.ensures.ports
+    (link-ports told (arc_value c.args.stand.turnstile) 3 (known c.start_workers.new.pass) _ _ team.link c.in-Ok-start_workers.ensures.ok.2 ∙ c.in-Ok.ensures.ports)
+
+pub returns-in-Ok-start_workers-clause-order : goal.returns-in-Ok-start_workers-clause-order
+returns-in-Ok-start_workers-clause-order g c =
+    let none = c.requires.ready.pairs in
+    c.lead.ensures.order (g.L.Dialer.made c.args.dialer.now)
+    (first-in-order g.L.In.LinkIn.told (arc_value c.args.stand.turnstile) 3 (known c.start_workers.new.pass) _ _ c.in-Ok-start_workers.team.link c.args.stand.past.pairs.items _
+    c.in-Ok-start_workers.ensures.ok.2 none c.in-Ok.ensures.numbered)
+    (omega (arith, c.in-Ok.ensures.made, ap length none))

@@ -28,3 +28,6 @@ loop-row-preserved g c =
 
 pub returns-then-row-lt-MOST_DIALS-clause-made : goal.returns-then-row-lt-MOST_DIALS-clause-made
 returns-then-row-lt-MOST_DIALS-clause-made g c = c.in_default.ensures.counted.stays (λ some. cc) ∙ c.loop-row.invariant.made
+
+pub returns-in-Some-clause-numbered : goal.returns-in-Some-clause-numbered
+returns-in-Some-clause-numbered g c = λ n told. c.in-Some.ensures.numbered n told ∙ c.loop-row.invariant.made

@@ -1,4 +1,4 @@
-use Rattle.std.proofs.Common.{arith, length, refl, subst, sym}
+use Rattle.std.proofs.Common.{inl, arith, length, refl, subst, sym}
 use Rattle.std.specs.Arc.{arc_value}
 use Rattle.turnstile.specs.Passes.{known}
 use Rattle.server_workers.specs.Running.{StopsAs}
@@ -7,10 +7,10 @@ use Rattle.server_workers.proofs.running.next_link.Goals as goal
 
 pub returns-then-len-ge-MOST_LINKS-clause-next : goal.returns-then-len-ge-MOST_LINKS-clause-next
 returns-then-len-ge-MOST_LINKS-clause-next g c =
-    let (left, went) = c.give_up.ensures.went in
+    let (tries, (left, went, asked)) = c.give_up.ensures.went in
     rw c.give_up.ensures.next
     (ends-worn g.L.In.LinkIn.told g.L.Out.LinkOut.told g.D.Datagrams.told (g.L.Dialer.told c.args.dialer.now) _ (known c.args.pass.now) (known c.give_up.new.pass) c.args.twins
-    c.args.past.now left c.requires.row c.requires.rests went (omega (arith, c.len.ensures, c.if-len-ge-MOST_LINKS.true)))
+    c.args.past.now tries left asked c.requires.row c.requires.rests went (omega (arith, c.len.ensures, c.if-len-ge-MOST_LINKS.true)))
 
 pub open_link-requires-clause-rests : goal.open_link-requires-clause-rests
 open_link-requires-clause-rests g c κs within =
@@ -36,10 +36,10 @@ returns-in-Finished-clause-next g c =
 pub returns-in-Failed-clause-next : goal.returns-in-Failed-clause-next
 returns-in-Failed-clause-next g c =
     let (mine, went, d) = c.in-Failed.ensures.dialled in
-    let (left, gone) = c.give_up-in-Failed.ensures.went in
+    let (tries, (left, gone, asked)) = c.give_up-in-Failed.ensures.went in
     rw c.give_up-in-Failed.ensures.next
     (ends-undialled g.L.In.LinkIn.told g.L.Out.LinkOut.told g.D.Datagrams.told (g.L.Dialer.told c.args.dialer.now) (g.L.Dialer.told c.dial.new.dialer) _ (known c.args.pass.now)
-    (known c.dial.new.pass) (known c.give_up-in-Failed.new.pass) c.args.twins c.args.past.now mine left c.requires.row c.requires.rests went d gone)
+    (known c.dial.new.pass) (known c.give_up-in-Failed.new.pass) c.args.twins c.args.past.now mine tries left asked c.requires.row c.requires.rests went d gone)
 
 pub returns-then-len-ge-MOST_LINKS-clause-stops : goal.returns-then-len-ge-MOST_LINKS-clause-stops
 returns-then-len-ge-MOST_LINKS-clause-stops g c =
@@ -77,3 +77,21 @@ pub returns-in-Failed-clause-kept : goal.returns-in-Failed-clause-kept
 returns-in-Failed-clause-kept g c =
     rw c.give_up-in-Failed.ensures.next
     (keeps-same (length c.args.past.now.pairs.items) (g.L.Dialer.made c.args.dialer.now) (g.L.Dialer.made c.dial.new.dialer) c.in-Failed.ensures.made)
+
+pub returns-then-len-ge-MOST_LINKS-clause-ports : goal.returns-then-len-ge-MOST_LINKS-clause-ports
+returns-then-len-ge-MOST_LINKS-clause-ports g c = rw c.give_up.ensures.next refl
+
+pub returns-in-Failed-clause-ports : goal.returns-in-Failed-clause-ports
+returns-in-Failed-clause-ports g c = rw c.give_up-in-Failed.ensures.next refl
+
+pub returns-then-len-ge-MOST_LINKS-clause-order : goal.returns-then-len-ge-MOST_LINKS-clause-order
+returns-then-len-ge-MOST_LINKS-clause-order g c = rw c.give_up.ensures.next (inl refl)
+
+pub returns-in-Made-clause-order : goal.returns-in-Made-clause-order
+returns-in-Made-clause-order g c = c.open_link.ensures.order (g.L.Dialer.made c.args.dialer.now) c.in-Made.ensures.numbered
+
+pub returns-in-Finished-clause-order : goal.returns-in-Finished-clause-order
+returns-in-Finished-clause-order g c = inl refl
+
+pub returns-in-Failed-clause-order : goal.returns-in-Failed-clause-order
+returns-in-Failed-clause-order g c = rw c.give_up-in-Failed.ensures.next (inl refl)

@@ -3,7 +3,8 @@ use Rattle.std.specs.Arc.{arc_value}
 use Rattle.turnstile.specs.Passes.{known}
 use Rattle.turnstile.specs.Turns.{of}
 use Rattle.server_workers.specs.declared.running.Next.TheVariants as next
-use Rattle.server_workers.specs.Running.{ComesNext, StopsFor}
+use Rattle.server_workers.specs.Running.{ComesNext, StopsFor, number_in}
+use Rattle.server_workers.proofs.LinkOverLemmas.{made-so-far, order-go, order-stop}
 use Rattle.server_workers.proofs.NextLinkLemmas.{goes-after, keeps-on, keeps-one, keeps-same, ticked-on, ticked-still}
 use Rattle.server_workers.proofs.running.serve_links.Goals as goal
 
@@ -17,6 +18,8 @@ loop-init g c = record {
   unrefused = refl;
   begun = omega arith;
   kept = keeps-same (length c.args.past.now.pairs.items) (g.L.Dialer.made c.args.dialer.now) (g.L.Dialer.made c.args.dialer.now) refl;
+  order = λ made ordered is. ordered;
+  ports = refl;
 }
 
 pub serve_one-requires-clause-table : goal.serve_one-requires-clause-table
@@ -35,6 +38,10 @@ loop-preserved g c =
       unrefused = goes.unrefused ∙ c.loop.invariant.unrefused;
       begun = omega (arith, c.loop.invariant.begun, c.serve_one.ensures.started);
       kept = keeps-one _ _ (length c.serve_one.new.past.pairs.items) _ _ (g.L.Dialer.made c.serve_one.new.dialer) c.loop.invariant.kept c.in-Go.ensures.kept;
+      order = λ made ordered is.
+          order-go made (g.L.Dialer.made c.loop.dialer) _ _ _ (c.loop.invariant.order made ordered is)
+          (made-so-far g.L.In.LinkIn.told c.loop.past.pairs.items (number_in g.L.In.LinkIn.told c.loop.live.helper) _ _ _ made c.loop.invariant.kept is) c.in-Go.ensures.order;
+      ports = c.in-Go.ensures.ports ∙ c.loop.invariant.ports;
     }
 
 pub returns-in-Stop-clause-ends : goal.returns-in-Stop-clause-ends
@@ -62,3 +69,11 @@ pub returns-in-Stop-clause-kept : goal.returns-in-Stop-clause-kept
 returns-in-Stop-clause-kept g c =
     keeps-on (length c.args.past.now.pairs.items) (length c.loop.past.pairs.items) (length c.serve_one.new.past.pairs.items) (g.L.Dialer.made c.args.dialer.now)
     (g.L.Dialer.made c.loop.dialer) (g.L.Dialer.made c.serve_one.new.dialer) c.loop.invariant.kept c.in-Stop.ensures.kept
+
+pub returns-in-Stop-clause-ports : goal.returns-in-Stop-clause-ports
+returns-in-Stop-clause-ports g c = c.in-Stop.ensures.ports ∙ c.loop.invariant.ports
+
+pub returns-in-Stop-clause-order : goal.returns-in-Stop-clause-order
+returns-in-Stop-clause-order g c = λ made ordered is.
+    order-stop made (g.L.Dialer.made c.loop.dialer) _ _ (c.loop.invariant.order made ordered is)
+    (made-so-far g.L.In.LinkIn.told c.loop.past.pairs.items (number_in g.L.In.LinkIn.told c.loop.live.helper) _ _ _ made c.loop.invariant.kept is) c.in-Stop.ensures.order

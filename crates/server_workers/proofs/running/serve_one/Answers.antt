@@ -1,9 +1,9 @@
-use Rattle.std.proofs.Common.{◌∙◌, ◌+◌, length, refl, subst, sym, arith}
+use Rattle.std.proofs.Common.{inl, ◌∙◌, ◌+◌, length, refl, subst, sym, arith}
 use Rattle.std.specs.Arc.{arc_value}
 use Rattle.wire_core.specs.Counts.{Rose}
 use Rattle.turnstile.specs.Passes.{known}
 use Rattle.turnstile.specs.Turns.{of}
-use Rattle.server_workers.specs.Running.{ComesNext, Keeps, KeepsAll, StopsAs}
+use Rattle.server_workers.specs.Running.{ComesNext, Keeps, KeepsAll, NextInOrder, StopsAs, numbers_of}
 use Rattle.server_workers.proofs.NextLinkLemmas.{goes-after, keeps-same, over-ends, over-rests, ticked-none}
 use Rattle.server_workers.proofs.running.serve_one.Goals as goal
 
@@ -54,3 +54,14 @@ pub returns-in-None-clause-kept : goal.returns-in-None-clause-kept
 returns-in-None-clause-kept g c =
     subst (λ n. KeepsAll c.next_link.result n (length c.next_link.new.past.pairs.items) (g.L.Dialer.made c.args.dialer.now) (g.L.Dialer.made c.next_link.new.dialer))
     c.serve_link-end.ensures.kept c.next_link.ensures.kept
+
+pub returns-in-None-clause-ports : goal.returns-in-None-clause-ports
+returns-in-None-clause-ports g c = c.next_link.ensures.ports ∙ c.serve_link-end.ensures.ports
+
+pub returns-in-Some-clause-order : goal.returns-in-Some-clause-order
+returns-in-Some-clause-order g c = inl c.serve_link-end.ensures.numbers
+
+pub returns-in-None-clause-order : goal.returns-in-None-clause-order
+returns-in-None-clause-order g c =
+    subst (λ xs. NextInOrder g.L.In.LinkIn.told c.next_link.result (g.L.Dialer.made c.args.dialer.now) xs (numbers_of g.L.In.LinkIn.told c.next_link.new.past.pairs.items))
+    c.serve_link-end.ensures.numbers c.next_link.ensures.order

@@ -1,4 +1,4 @@
-use Rattle.std.proofs.Common.{cond, None, ◌≡◌, ◌∷◌, ◌∙◌, ◌<◌, Bool, true, false, Some, nat_lt, not, filter, drop, length, refl, ap, sym, subst, arith}
+use Rattle.std.proofs.Common.{cond, None, ◌≡◌, ◌∷◌, ◌∙◌, ◌<◌, true, false, Some, nat_lt, not, filter, drop, length, refl, ap, sym, subst, arith}
 use Rattle.std.specs.List.{AllByRecursion}
 use Rattle.pending_table.specs.declared.key.Key.{Key}
 use Rattle.std.specs.HashMap.{get, hash_map_len}

@@ -32,18 +32,18 @@ returns-clause-kept c =
     let s = c.args.self.now in
     let draft = c.requires.draft in
     let r : Row = (c.args.key, draft.entry) in
-    let keys = on_ok c.insert.result _ c.insert.ensures.updates (c.insert.ensures.succeeds c.requires.room.keys) in
-    let numbers = on_ok c.insert-2.result _ c.insert-2.ensures.updates (c.insert-2.ensures.succeeds c.requires.room.numbers) in
-    let key_updates : (q : Key) → get same_key c.insert.new.self q ≡ cond (same_key c.args.key q) (Some (Waiting s.next)) (get same_key s.keys q) = keys.1.0 in
-    let number_updates : (q : Number) → get same_number c.insert-2.new.self q ≡ cond (same_number c.args.number q) (Some s.next) (get same_number s.numbers q) = numbers.1.0 in
+    let keys = on_ok c.insert-2.result _ c.insert-2.ensures.updates (c.insert-2.ensures.succeeds c.requires.room.keys) in
+    let numbers = on_ok c.insert.result _ c.insert.ensures.updates (c.insert.ensures.succeeds c.requires.room.numbers) in
+    let key_updates : (q : Key) → get same_key c.insert-2.new.self q ≡ cond (same_key c.args.key q) (Some (Waiting s.next)) (get same_key s.keys q) = keys.1.0 in
+    let number_updates : (q : Number) → get same_number c.insert.new.self q ≡ cond (same_number c.args.number q) (Some s.next) (get same_number s.numbers q) = numbers.1.0 in
     let others = subst (λ n. AllByRecursion (λ p. same_number (number_of p.1) n ≡ false) (waits s)) (sym draft.numbered) draft.follows.number in
     let longer =
-    grows c.insert-2.result (get same_number s.numbers c.args.number) (hash_map_len s.numbers) (hash_map_len c.insert-2.new.self)
-    c.insert-2.ensures.old c.insert-2.ensures.len (c.insert-2.ensures.succeeds c.requires.room.numbers)
+    grows c.insert.result (get same_number s.numbers c.args.number) (hash_map_len s.numbers) (hash_map_len c.insert.new.self)
+    c.insert.ensures.old c.insert.ensures.len (c.insert.ensures.succeeds c.requires.room.numbers)
     (c.requires.kept.unused c.args.number others)
     in
-    kept-entered s c.insert.new.self c.insert-2.new.self r c.requires.kept draft.drafted draft.follows c.requires.room key_updates
-    (subst (λ n. (q : Number) → get same_number c.insert-2.new.self q ≡ cond (same_number n q) (Some s.next) (get same_number s.numbers q)) draft.numbered number_updates)
+    kept-entered s c.insert-2.new.self c.insert.new.self r c.requires.kept draft.drafted draft.follows c.requires.room key_updates
+    (subst (λ n. (q : Number) → get same_number c.insert.new.self q ≡ cond (same_number n q) (Some s.next) (get same_number s.numbers q)) draft.numbered number_updates)
     longer
 
 pub returns-clause-whole : goal.returns-clause-whole

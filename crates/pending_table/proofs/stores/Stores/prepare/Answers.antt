@@ -1,4 +1,4 @@
-use Rattle.std.proofs.Common.{◌≡◌, ◌∙◌, ap}
+use Rattle.std.proofs.Common.{◌∙◌, ap}
 use Rattle.pending_table.specs.Stores.{HasSameList}
 use Rattle.pending_table.proofs.Preparing.{on_err, list-room, same_waits, same_all, prepared}
 use Rattle.pending_table.proofs.stores.Stores.prepare.Goals as goal

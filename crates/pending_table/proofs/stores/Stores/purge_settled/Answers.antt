@@ -1,5 +1,4 @@
 use Rattle.std.proofs.Common.{◌∙◌, sym}
-use Rattle.pending_table.specs.Stores.{waits}
 use Rattle.pending_table.proofs.Dropping.{live_left}
 use Rattle.pending_table.proofs.stores.Stores.purge_settled.Goals as goal
 

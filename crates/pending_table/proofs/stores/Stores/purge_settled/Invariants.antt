@@ -1,4 +1,4 @@
-use Rattle.std.proofs.Common.{ℕ, ◌≡◌, filter, length}
+use Rattle.std.proofs.Common.{◌≡◌, filter, length}
 use Rattle.pending_table.specs.Stores.{IsKept, KeepsRest, is_live, waits}
 use Rattle.pending_table.proofs.stores.Stores.purge_settled.Given as goal
 

@@ -1,4 +1,4 @@
-use Rattle.std.proofs.Common.{◌≡◌, ◌∙◌, ◌+◌, ◌≤◌, ◌∷◌, [], ◌++◌, ◌&&◌, ℕ, Bool, true, false, cond, Option, Some, None, is_some, IsSome, List, length, refl, ap, sym, subst, arith, MutBor}
+use Rattle.std.proofs.Common.{◌≡◌, ◌∙◌, ◌+◌, ◌≤◌, ◌∷◌, [], ◌++◌, ℕ, cond, Option, Some, None, is_some, IsSome, List, length, refl, ap, sym, subst, arith, MutBor}
 use Rattle.std.proofs.lemmas.List.{length-append}
 use Rattle.std.specs.Option.{option_copied_mut}
 use Rattle.std.specs.List.{AllByRecursion}
@@ -7,11 +7,11 @@ use Rattle.pending_table.specs.declared.key.Key.{Key}
 use Rattle.pending_table.specs.declared.stores.Number.{Number}
 use Rattle.pending_table.specs.declared.stores.Place.{Place}
 use Rattle.pending_table.specs.declared.stores.Place.TheVariants.{Waiting, Settled}
-use Rattle.pending_table.specs.Table.{Row, same_key, has_number, is_waiting, ends}
+use Rattle.pending_table.specs.Table.{Row, same_key, ends}
 use Rattle.pending_table.specs.Merged.{Held, rows}
 use Rattle.pending_table.specs.Stores.{waits, waiting_at, same_number, number_of, ends_before}
 use Rattle.pending_table.proofs.Dropping.{one_less}
-use Rattle.pending_table.proofs.Settling.{Split, split, awaited, asked_for, key_at, ends_settled, others-fail, all_middle, kept-settled, whole-settled, rows-settled}
+use Rattle.pending_table.proofs.Settling.{Split, split, awaited, asked_for, key_at, ends_settled, kept-settled, whole-settled, rows-settled}
 use Rattle.pending_table.proofs.stores.Stores.settle.Goals as goal
 
 -- an index that has the key finds it

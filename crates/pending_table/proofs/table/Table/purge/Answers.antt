@@ -5,7 +5,7 @@ use Rattle.pending_table.proofs.Purging.{whole_still, purged}
 use Rattle.pending_table.proofs.Seen.{same_parts}
 use Rattle.pending_table.proofs.table.Table.purge.Goals as goal
 
-left : (c : goal.After-purge_settled) → all c.purge_settled.new.self ≡ filter (is_live c.self.inside.stores c.args.moment) (all c.self.inside.stores)
+left : (c : goal.After-pass) → all c.purge_settled.new.self ≡ filter (is_live c.self.inside.stores c.args.moment) (all c.self.inside.stores)
 left c =
     let first = c.purge_waiting.ensures in
     let second = c.purge_settled.ensures in

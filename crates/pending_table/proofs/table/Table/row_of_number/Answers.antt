@@ -1,5 +1,4 @@
 use Rattle.std.proofs.Common.{◌≡◌, ◌∙◌, sym, ap, Some, None, option_copied, option_and_then, if◌then◌else◌}
-use Rattle.std.specs.Bool.{then_some}
 use Rattle.pending_table.specs.Stores.{is_live, by_number}
 use Rattle.pending_table.proofs.Seen.{found_by_number, copied_then}
 use Rattle.pending_table.proofs.table.Table.row_of_number.Goals as goal

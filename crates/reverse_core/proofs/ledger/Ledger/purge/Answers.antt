@@ -11,8 +11,7 @@ loop-past-preserved c =
     let l = c.loop-past.self in
     let inv = c.loop-past.invariant in
     let some = c.in-Some.ensures.some in
-    let updates : (q : Key) → get same_key c.swap_remove.new.self q ≡ cond (same_key c.in-Some.past.key q) None (get same_key l.index q) =
-    subst (λ k. (q : Key) → get same_key c.swap_remove.new.self q ≡ cond (same_key k q) None (get same_key l.index q)) c.get.ensures c.swap_remove.ensures.updates.0 in
+    let updates : (q : Key) → get same_key c.swap_remove.new.self q ≡ cond (same_key c.in-Some.past.key q) None (get same_key l.index q) = c.swap_remove.ensures.updates.0 in
     let gone : is_kept c.args.self.now.own c.args.moment c.in-Some.past ≡ false = some.1 in
     record {
       sound = sound-dropped l c.swap_remove.new.self c.pop_past.new.self c.in-Some.past inv.sound some.0 some.2 updates;

@@ -16,4 +16,4 @@ returns-clause-hears c =
     let most : 0 < c.unwrap_or.result = search (rules, not-quiet look (c.len.result - place) loud rest) in
     let room : 0 < length c.args.buf.now = search rules in
     let some : 0 < n = omega (arith, most, rest, room, c.min.ensures, c.min-count.ensures) in
-    rw (← c.self.view_is) (brought octets c.args.buf.now c.copy_from_slice.new.self place n c.self.inside.looks.items c.next_look-look.new.looks.items c.self.inside.idle c.self.inside.ends (search rules) (search rules) some front)
+    rw (← c.self.view_is) (brought octets c.args.buf.now c.copy_from_slice.new.self place n c.self.inside.looks.items c.next_look-look.new.looks.items c.self.inside.idle c.self.inside.ends c.self.inside.number (search rules) (search rules) some front)
