@@ -10,7 +10,7 @@ use Rattle.agent_events.specs.declared.events.Input.{Input}
 use Rattle.agent_server.specs.declared.desk.AgentDesk.{AgentDesk}
 use Rattle.server_workers.specs.declared.heard.Heard.{Heard}
 use Rattle.server_workers.specs.declared.running.ReaderBack.{ReaderBack}
-use Rattle.agent_server.specs.declared.server.SocketBack.{SocketBack}
+use Rattle.agent_server.specs.declared.team.SocketBack.{SocketBack}
 use Rattle.server_workers.specs.declared.workers.Worker.{Worker}
 use Rattle.server_workers.specs.declared.workers.Worker.TheVariants as worker
 use Rattle.server_workers.specs.Running.{IsLinkWorker, ReaderNeverRan}

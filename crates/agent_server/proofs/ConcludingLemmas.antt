@@ -25,7 +25,7 @@ use Rattle.server_workers.specs.declared.heard.Heard.{Heard}
 use Rattle.server_workers.specs.declared.running.Past.{Past}
 use Rattle.server_workers.specs.declared.running.RunEnd.{RunEnd}
 use Rattle.server_workers.specs.declared.running.Twins.{Twins}
-use Rattle.agent_server.specs.declared.server.SocketBack.{SocketBack}
+use Rattle.agent_server.specs.declared.team.SocketBack.{SocketBack}
 use Rattle.server_workers.specs.declared.links.Pair.{Pair}
 use Rattle.agent_server.specs.declared.trail.Trail.{Trail}
 use Rattle.server_workers.specs.declared.workers.Worker.{Worker}
@@ -183,7 +183,7 @@ module _ {C D I O : Type 0} (readings : C → Option (List ℕ)) (told : D → S
     pub acct_joined : Joined middle (known acct_back.pass) m
     pub turns : (trail.turns ≡ m.seen) × Numbered trail.turns
     pub stood : Carries (StandsBy readings) m base → StandsBy readings desk base (plain trail.turns)
-    pub last_is : last ≡ record { clock = desk.clock; entries = desk.entries; closed = desk.closed }
+    pub last_is : last ≡ record { tools = record { clock = desk.clock; sender = desk.sender }; entries = desk.entries; closed = desk.closed }
     pub entries : trail.entries ≡ last.entries
     pub lost : trail.lost ≡ min (min (past.lost + auth_back.lost) (2 ^ 64 - 1) + acct_back.lost) (2 ^ 64 - 1)
     pub again : trail.again ≡ past.again
@@ -197,7 +197,7 @@ module _ {C D I O : Type 0} (readings : C → Option (List ℕ)) (told : D → S
       → AllDone readings told hears speaks base dials dials' dials'' starts starts' auth acct k k' end twins past auth_back acct_back
       → Closes base end k' m twins past auth_back acct_back desk last trail status
       → Served readings told hears speaks base.config base.until base.before auth acct (told auth_back.socket) (told acct_back.socket) dials dials'' starts starts'
-      last.clock trail status
+      last.tools.clock trail status
   all-served base dials dials' dials'' starts starts' auth acct k k' m end twins past auth_back acct_back desk last trail status done closes =
       let ends = done.ends in
       let a = done.auth_done in
@@ -231,7 +231,7 @@ module _ {C D I O : Type 0} (readings : C → Option (List ℕ)) (told : D → S
         run = stands.run;
         numbered = numbered;
         asks = finals.asks;
-        clock_read = subst (λ (e : DeskEnd C). HasRead (readings e.clock) base.before (plain ts)) (sym closes.last_is) stands.clock;
+        clock_read = subst (λ (e : DeskEnd C). HasRead (readings e.tools.clock) base.before (plain ts)) (sym closes.last_is) stands.clock;
         entries = closes.entries ∙ ap (λ (e : DeskEnd C). e.entries) closes.last_is ∙ stands.entries;
         auth_out = a.reads.out;
         acct_out = c.reads.out;

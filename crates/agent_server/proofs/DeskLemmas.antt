@@ -1,5 +1,5 @@
 -- How a desk stands for one more turn.
-use Rattle.std.proofs.Common.{◌≡◌, ℕ, ◌-◌, ◌^◌, ◌≤◌, max, min, Bool, ◌||◌, nat_le, List, [], ◌∷◌, ◌++◌, length, Option, Some, None, Result, Ok, Err, refl, sym, ap, ◌∙◌, subst, append_assoc, arith}
+use Rattle.std.proofs.Common.{◌≡◌, ℕ, ◌-◌, ◌^◌, ◌≤◌, max, min, Bool, ◌||◌, ◌&&◌, ◌==◌, true, false, if◌then◌else◌, nat_le, map, List, [], ◌∷◌, ◌++◌, length, Option, Some, None, Result, Ok, Err, refl, sym, ap, ◌∙◌, subst, append_assoc, arith}
 use Rattle.std.proofs.lemmas.List.{length-append}
 use Rattle.wire_core.specs.Counts.{one_more}
 use Rattle.wire_devices.specs.Telling.{Adds}
@@ -12,15 +12,17 @@ use Rattle.std.specs.Result.{IsErr}
 use Rattle.turnstile.specs.Turns.{entry_of}
 use Rattle.agent_core.specs.declared.ledger.Ledger.{Ledger}
 use Rattle.agent_core.specs.Laws.{PastGoesOn}
-use Rattle.agent_core.specs.Places.{Event, Place, begins, now}
+use Rattle.agent_core.specs.LawsOfSends.{is_idle, leaves_all, not_before, without_idle}
+use Rattle.agent_core.specs.Places.{Event, Place, begins, now, outbox}
+use Rattle.run_record.specs.Recordings.{Sending}
 use Rattle.agent_events.specs.Kinds.{is_drain}
 use Rattle.agent_core.specs.History.{outputs_after, past, place, places}
 use Rattle.agent_core.specs.Standing.{StandsFor}
 use Rattle.agent_server.specs.declared.desk.AgentDesk.{AgentDesk}
 use Rattle.server_workers.specs.declared.base.RunBase.{RunBase}
 use Rattle.server_workers.specs.declared.heard.Heard.{Heard}
-use Rattle.agent_server.specs.Desks.{AreRead, Enters, HasRead, IsCalm, IsSame, StandsBy}
-use Rattle.agent_server.specs.Runs.{IsRunFrom, closed, closed_with, event_of, handed_over, has_left, heard_at, history, others_in, places_of, unsent, unsent_with}
+use Rattle.agent_server.specs.Desks.{AreRead, Enters, HasRead, HasSent, IsCalm, IsSame, StandsBy, Tells, event, sent_with}
+use Rattle.agent_server.specs.Runs.{IsRunFrom, closed, closed_with, event_of, handed_over, has_left, heard_at, history, others_in, places_of, entries_recorded, unsent, unsent_with}
 use Rattle.agent_events.specs.Kinds.{is_leave}
 use Rattle.agent_server.proofs.PlaceLemmas.{place-at}
 
@@ -99,6 +101,26 @@ read-on (Some xs) told' r before turns turn adds has on all is =
     let longer : xs ++ r ∷ [] ≡ all = cc in
     (readings ++ r ∷ [], sym longer ∙ ap (λ l. l ++ r ∷ []) whole ∙ append_assoc before readings (r ∷ []), on readings read)
 
+-- ---- what is given to the record
+
+idle-push-by : (idle : Bool) (x : Event) (es fs more : List Event) → es ≡ fs ++ more → (if idle then es else x ∷ es) ≡ (if idle then fs else x ∷ fs) ++ more
+idle-push-by true x es fs more is = is
+idle-push-by false x es fs more is = ap (λ es. x ∷ es) is
+
+-- one more event, which is left out where it is idle
+idle-push : (config : Config) (ps : List Place) (es : List Event) (e : Event)
+    → without_idle config ps (es ++ e ∷ [])
+    ≡ without_idle config ps es ++ (if is_idle config (places config ps es) e then [] else not_before (now (places config ps es)) e ∷ [])
+idle-push config ps [] e = refl
+idle-push config ps (x ∷ es) e = idle-push-by (is_idle config ps x) (not_before (now ps) x) _ _ _ (idle-push config (place config ps x ∷ ps) es e)
+
+-- what was given is the event, no earlier than what came before
+sent-is : (idle : Bool) (m moment : ℕ) (ask : Input) → m ≤ moment
+    → map event (sent_with idle (record { moment = moment; input = ask })) ≡ (if idle then [] else not_before m (record { moment = moment; input = ask }) ∷ [])
+sent-is true m moment ask late = refl
+sent-is false m moment ask late =
+    let greatest_is : moment ≡ max m moment = omega (arith, late) in ap (λ n. record { moment = n; input = ask } ∷ []) greatest_is
+
 -- ---- one more turn
 
 -- what an answer is made of
@@ -116,7 +138,7 @@ made-same : (os : List Output) {m m' : ℕ} {i i' : Input} {b b' : List Output} 
 made-same os em ei eb el eu eg ec = rw (em, ei, eb, el, eu, eg, ec) refl
 
 -- how a step went that the core didn't refuse: what it gave, and what was made of it
-pub record Goes {C : Type 0} (readings : C → Option (List ℕ)) (old new : AgentDesk C) (reading time : ℕ) (ask : Input) (begun : Bool) (all : List Output) (answer : Heard) : Type 0 where
+pub record Goes {C : Type 0} (readings : C → Option (List ℕ)) (old new : AgentDesk C) (reading time : ℕ) (ask : Input) (begun idle : Bool) (all : List Output) (answer : Heard) : Type 0 where
   pub told : Adds (readings old.clock) (readings new.clock) (reading ∷ [])
   pub effective : time ≡ max old.moment reading
   pub config : new.core.config ≡ old.core.config
@@ -129,33 +151,45 @@ pub record Goes {C : Type 0} (readings : C → Option (List ℕ)) (old new : Age
   pub closed : new.closed ≡ closed_with begun old.closed all
   pub left : new.left ≡ (old.left || is_leave ask)
   pub entries : new.entries ≡ one_more old.entries
+  pub idles : (H : List Event) → StandsFor old.core H → idle ≡ is_idle old.core.config (past old.core.config H) (record { moment = time; input = ask })
+  pub sent : (before : Option Sending) (events : List Event) → HasSent before old.sender events
+      → HasSent before new.sender (events ++ map event (sent_with idle (record { moment = time; input = ask })))
   pub heard : answer ≡ made time all ask old.outbox.items old.left old.until begun old.closed
 
 -- a step is a reading of the clock, room, the core's step, and what is made of it
-pub goes-by : {C : Type 0} (readings : C → Option (List ℕ)) (old mid new : AgentDesk C) (clock : C) (core : Ledger) (reading time : ℕ) (ask : Input) (begun : Bool) (all : List Output) (answer : Heard)
+pub goes-by : {C : Type 0} (readings : C → Option (List ℕ)) (old mid entered new : AgentDesk C) (clock : C) (core : Ledger) (reading time outbox_was : ℕ) (ask : Input) (begun idle : Bool) (all : List Output) (answer : Heard)
     → Adds (readings old.clock) (readings clock) (reading ∷ []) → time ≡ max old.moment reading
-    → IsSame (record old { clock = clock }) mid → Enters (record mid { core = core }) new time ask begun all answer
+    → IsSame (record old { clock = clock }) mid → Enters (record mid { core = core }) entered time ask begun all answer
+    → Tells entered new time ask idle → idle ≡ (leaves_all ask outbox_was && length all == 0)
+    → ((H : List Event) → StandsFor mid.core H → outbox_was ≡ outbox (past mid.core.config H))
     → core.config ≡ mid.core.config
     → ((H : List Event) → StandsFor mid.core H → all ≡ outputs_after mid.core.config H (record { moment = time; input = ask }))
     → ((H : List Event) → StandsFor mid.core H → StandsFor core (H ++ record { moment = time; input = ask } ∷ []))
     → ((H : List Event) → StandsFor mid.core H → begun ≡ begins (past mid.core.config H) ask)
-    → Goes readings old new reading time ask begun all answer
-goes-by readings old mid new clock core reading time ask begun all answer told effective same enters config answers stands began =
+    → Goes readings old new reading time ask begun idle all answer
+goes-by readings old mid entered new clock core reading time outbox_was ask begun idle all answer told effective same enters tells idle_is unsent_is config answers stands began =
     let back : (H : List Event) → StandsFor old.core H → StandsFor mid.core H =
     λ H st. subst (λ (c : Ledger). StandsFor c H) (sym same.core) st in
     record {
-      told = subst (λ k. Adds (readings old.clock) (readings k) (reading ∷ [])) (sym (enters.clock ∙ same.clock)) told;
+      told = subst (λ k. Adds (readings old.clock) (readings k) (reading ∷ [])) (sym (tells.clock ∙ enters.clock ∙ same.clock)) told;
       effective = effective;
-      config = ap (λ (c : Ledger). c.config) enters.core ∙ config ∙ ap (λ (c : Ledger). c.config) same.core;
+      config = ap (λ (c : Ledger). c.config) (tells.core ∙ enters.core) ∙ config ∙ ap (λ (c : Ledger). c.config) same.core;
       answers = λ H st. answers H (back H st) ∙ ap (λ (c : Ledger). outputs_after c.config H (record { moment = time; input = ask })) same.core;
-      stands = λ H st. subst (λ (c : Ledger). StandsFor c (H ++ record { moment = time; input = ask } ∷ [])) (sym enters.core) (stands H (back H st));
+      stands = λ H st. subst (λ (c : Ledger). StandsFor c (H ++ record { moment = time; input = ask } ∷ [])) (sym (tells.core ∙ enters.core)) (stands H (back H st));
       began = λ H st. began H (back H st) ∙ ap (λ (c : Ledger). begins (past c.config H) ask) same.core;
-      until = enters.until ∙ same.until;
-      moment = enters.moment;
-      outbox = enters.outbox ∙ ap (λ (b : List Output). unsent_with (is_drain ask) begun b all) same.outbox;
-      closed = enters.closed ∙ ap (λ (b : Option LinkCause). closed_with begun b all) same.closed;
-      left = enters.left ∙ ap (λ (b : Bool). b || is_leave ask) same.left;
-      entries = enters.entries ∙ ap one_more same.entries;
+      until = tells.until ∙ enters.until ∙ same.until;
+      moment = tells.moment ∙ enters.moment;
+      outbox = tells.outbox ∙ enters.outbox ∙ ap (λ (b : List Output). unsent_with (is_drain ask) begun b all) same.outbox;
+      closed = tells.closed ∙ enters.closed ∙ ap (λ (b : Option LinkCause). closed_with begun b all) same.closed;
+      left = tells.left ∙ enters.left ∙ ap (λ (b : Bool). b || is_leave ask) same.left;
+      entries = tells.entries ∙ enters.entries ∙ ap one_more same.entries;
+      idles = λ H st.
+          let e : Event = record { moment = time; input = ask } in
+          let as_said : all ≡ outputs_after mid.core.config H e = answers H (back H st) in
+          idle_is ∙ ap (λ n. leaves_all ask n && length all == 0) (unsent_is H (back H st))
+          ∙ ap (λ (os : List Output). leaves_all ask (outbox (past mid.core.config H)) && length os == 0) as_said
+          ∙ ap (λ (c : Ledger). is_idle c.config (past c.config H) e) same.core;
+      sent = λ before events has. tells.sent before events (subst (λ s. HasSent before s events) (sym (enters.sender ∙ same.sender)) has);
       heard = enters.heard ∙ rw (same.outbox, same.left, same.until, same.closed) refl;
     }
 
@@ -182,10 +216,10 @@ module _ {C : Type 0} (readings : C → Option (List ℕ)) (law : PastGoesOn) wh
   entered : (old : AgentDesk C) (base : RunBase) (turns : RunTurns) (moment : ℕ) (ask : Input) → Place
   entered old base turns moment ask = place base.config (places_of base.config turns) (record { moment = moment; input = ask })
 
-  pub stands-on : (old new : AgentDesk C) (base : RunBase) (turns : RunTurns) (reading moment : ℕ) (ask : Input) (begun : Bool) (all : List Output) (heard : Heard)
-      → StandsBy readings old base turns → Goes readings old new reading moment ask begun all heard
+  pub stands-on : (old new : AgentDesk C) (base : RunBase) (turns : RunTurns) (reading moment : ℕ) (ask : Input) (begun idle : Bool) (all : List Output) (heard : Heard)
+      → StandsBy readings old base turns → Goes readings old new reading moment ask begun idle all heard
       → StandsBy readings new base (turns ++ Some (ask, heard) ∷ [])
-  stands-on old new base turns reading moment ask begun all heard s go =
+  stands-on old new base turns reading moment ask begun idle all heard s go =
       let ps = places_of base.config turns in
       let e : Event = record { moment = moment; input = ask } in
       let p = place base.config ps e in
@@ -221,13 +255,20 @@ module _ {C : Type 0} (readings : C → Option (List ℕ)) (law : PastGoesOn) wh
         clock = read-on (readings old.clock) (readings new.clock) reading base.before turns (Some (ask, heard)) go.told s.clock
             (λ rs read. read-push 0 reading turns rs ask heard
             (heard_moment ∙ go.effective ∙ ap (λ (m : ℕ). max m reading) (s.moment ∙ run-greatest base.config base.until 0 [] turns s.run refl)) read);
+        sent =
+            let idle_is : idle ≡ is_idle base.config ps e =
+            go.idles (history turns) s.core ∙ ap (λ (c : Config). is_idle c (past c (history turns)) e) s.config in
+            subst (HasSent base.sender new.sender)
+            (ap (λ es. entries_recorded base.config turns ++ es) (sent-is idle (now ps) moment ask late ∙ ap (λ b. if b then [] else not_before (now ps) e ∷ []) idle_is)
+            ∙ sym (idle-push base.config [] (history turns) e) ∙ sym (ap (without_idle base.config []) history_is))
+            (go.sent base.sender (entries_recorded base.config turns) s.sent);
       }
 
   pub stands-blank : (old new : AgentDesk C) (base : RunBase) (turns : RunTurns) (reading : ℕ) → StandsBy readings old base turns
       → Adds (readings old.clock) (readings new.clock) (reading ∷ []) → new.core ≡ old.core → new.until ≡ old.until → new.moment ≡ old.moment
-      → new.outbox.items ≡ old.outbox.items → new.closed ≡ old.closed → new.left ≡ old.left → new.entries ≡ old.entries
+      → new.outbox.items ≡ old.outbox.items → new.closed ≡ old.closed → new.left ≡ old.left → new.entries ≡ old.entries → new.sender ≡ old.sender
       → StandsBy readings new base (turns ++ None ∷ [])
-  stands-blank old new base turns reading s told core until moment outbox closed_same left entries =
+  stands-blank old new base turns reading s told core until moment outbox closed_same left entries sender =
       let same = history-blank turns in
       let places_are : places_of base.config (turns ++ None ∷ []) ≡ places_of base.config turns = ap (past base.config) same in
       record {
@@ -241,4 +282,7 @@ module _ {C : Type 0} (readings : C → Option (List ℕ)) (law : PastGoesOn) wh
         left = left ∙ s.left ∙ sym (ap has_left places_are);
         entries = entries ∙ s.entries ∙ ap (λ (H : List Event). min (length H) (2 ^ 64 - 1)) (sym same);
         clock = read-on (readings old.clock) (readings new.clock) reading base.before turns None told s.clock (λ rs read. read-blank 0 reading turns rs read);
+        sent =
+            subst (HasSent base.sender new.sender) (sym (ap (without_idle base.config []) same))
+            (subst (λ (x : Option Sending). HasSent base.sender x (entries_recorded base.config turns)) (sym sender) s.sent);
       }

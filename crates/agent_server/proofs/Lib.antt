@@ -10,3 +10,4 @@ pub mod SortLemmas
 pub mod SpanLemmas
 pub mod StartingLemmas
 pub mod StatusLemmas
+mod RanLemmas

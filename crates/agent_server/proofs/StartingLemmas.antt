@@ -1,5 +1,5 @@
 -- How a run starts, and how it ends where no worker was started.
-use Rattle.std.proofs.Common.{◌≡◌, ◌≢◌, ℕ, zero, suc, ◌+◌, ◌<◌, ◌≤◌, ◌⊎◌, inl, inr, max, Bool, true, false, cond, ◌||◌, List, [], ◌∷◌, ◌++◌, length, Option, Some, None, Result, Ok, Err, IfOk, IfErr, IfSome, IfNone, IsSome, MatchResult, is_some, true≢false, vec_capacity, refl, sym, ap, ◌∙◌, subst, append_assoc, arith}
+use Rattle.std.proofs.Common.{◌≡◌, ◌≢◌, ℕ, zero, suc, ◌+◌, ◌<◌, ◌≤◌, ◌⊎◌, inl, inr, max, Bool, true, false, cond, ◌||◌, map, List, [], ◌∷◌, ◌++◌, length, Option, Some, None, Result, Ok, Err, IfOk, IfErr, IfSome, IfNone, IsSome, MatchResult, is_some, true≢false, vec_capacity, refl, sym, ap, ◌∙◌, subst, append_assoc, arith}
 use Rattle.std.proofs.lemmas.Bool.{cases_order}
 use Rattle.std.proofs.lemmas.List.{append-nil, same_from_push}
 use Rattle.std.proofs.lemmas.List.Elements.{All-nil}
@@ -30,28 +30,30 @@ use Rattle.server_workers.specs.declared.heard.Heard.{Heard}
 use Rattle.server_workers.specs.declared.link_making.Dialling.TheVariants as dialling
 use Rattle.server_workers.specs.declared.running.Past.{Past}
 use Rattle.server_workers.specs.declared.running.Twins.{Twins}
-use Rattle.agent_server.specs.declared.server.FirstLink.{FirstLink}
-use Rattle.agent_server.specs.declared.server.Stand.{Stand}
-use Rattle.agent_server.specs.declared.server.Team.{Team}
-use Rattle.agent_server.specs.declared.server.Unteamed.{Unteamed}
-use Rattle.agent_server.specs.declared.server.Workers.{Workers}
+use Rattle.agent_server.specs.declared.stand.FirstLink.{FirstLink}
+use Rattle.agent_server.specs.declared.stand.Stand.{Stand}
+use Rattle.agent_server.specs.declared.team.Team.{Team}
+use Rattle.agent_server.specs.declared.team.Unteamed.{Unteamed}
+use Rattle.agent_server.specs.declared.team.Workers.{Workers}
 use Rattle.server_workers.specs.declared.links.Pair.{Pair}
 use Rattle.agent_server.specs.declared.trail.Trail.{Trail}
 use Rattle.server_workers.specs.declared.workers.Ended.TheVariants as ended
 use Rattle.server_workers.specs.declared.workers.Worker.{Worker}
 use Rattle.server_workers.specs.declared.workers.Worker.TheVariants as worker
-use Rattle.agent_server.specs.Desks.{AreRead, HasRead, StandsBy}
+use Rattle.agent_server.specs.Desks.{AreRead, HasRead, HasSent, StandsBy, event}
 use Rattle.server_workers.specs.Entries.{EachEntry, RunTurn, is_entry_of, is_tick, replies_by, ticks, turn_of}
 use Rattle.server_workers.specs.Going.{SeenLast, Went}
 use Rattle.server_workers.specs.Running.{Dialled, IsFinishedTick, NoLeave, Opened, RoseBy, StartedAs}
-use Rattle.agent_server.specs.Runs.{IsRun, has_left, places_of}
+use Rattle.agent_server.specs.Runs.{IsRun, has_left, places_of, entries_recorded}
 use Rattle.agent_events.specs.Kinds.{is_leave}
-use Rattle.agent_server.specs.Server.{Began, EndsEarly, HasPassed, HasTrail, Holds, Served}
+use Rattle.run_record.specs.Recordings.{Sending}
+use Rattle.agent_server.specs.declared.desk.Tools.{Tools}
+use Rattle.agent_server.specs.Server.{EndsEarly, HasPassed, HasTrail, Holds, Served}
 use Rattle.server_workers.specs.Serving.{IsTick, WasRead}
 use Rattle.server_workers.specs.Serving.Spans.{no_more}
 use Rattle.server_workers.specs.SocketReading.{ReadsSocket}
 use Rattle.server_workers.specs.Segments.{IsClosed, ServerTurn}
-use Rattle.agent_server.specs.Starting.{Alike, FinishedAlone, FirstFails, FirstOpened, IsAlone, IsLinkReader, IsLinkReaderOf, IsRead, IsReader, IsReaderOf, IsSocketBack, IsStart, StartsFor}
+use Rattle.agent_server.specs.Starting.{Alike, BeganFrom, FinishedAlone, FirstFails, FirstOpened, IsAlone, IsLinkReader, IsLinkReaderOf, IsRead, IsReader, IsReaderOf, IsSocketBack, IsStart, StartsFor}
 use Rattle.server_workers.specs.Workers.{CanRun, Ran}
 use Rattle.agent_server.proofs.AskingLemmas.{each-at}
 use Rattle.server_workers.proofs.GoingLemmas.{went-on}
@@ -59,24 +61,36 @@ use Rattle.server_workers.proofs.LinkOverLemmas.{each-weaker}
 use Rattle.agent_server.proofs.SpanLemmas.{finished-by, leave-there}
 use Rattle.server_workers.proofs.TurnLemmas.{of-append}
 
--- ---- the clock of a turnstile that was closed
+-- ---- what is left of a turnstile that was closed
+
+-- nothing was given to a sender
+pub none-sent : (sender : Option Sending) → HasSent sender sender []
+none-sent None = refl
+none-sent (Some s) = (s, refl, refl, sym (append-nil (map event s.told)))
 
 module _ {C : Type 0} (readings : C → Option (List ℕ)) where
   pub read-at : (desk : AgentDesk C) (base : RunBase) (turns seen : List ServerTurn) (end : DeskEnd C) → StandsBy readings desk base (plain turns)
-      → (turns ≡ seen) × Numbered turns → end ≡ record { clock = desk.clock; entries = desk.entries; closed = desk.closed } → IsRead readings end.clock base seen
+      → (turns ≡ seen) × Numbered turns
+      → end ≡ record { tools = record { clock = desk.clock; sender = desk.sender }; entries = desk.entries; closed = desk.closed } → IsRead readings end.tools base seen
   read-at desk base turns seen end stands (same, numbered) is =
-      subst (λ ts. IsRead readings end.clock base ts) same (record {
+      subst (λ ts. IsRead readings end.tools base ts) same (record {
         run = stands.run;
         numbered = numbered;
-        clock_read = subst (λ (e : DeskEnd C). HasRead (readings e.clock) base.before (plain turns)) (sym is) stands.clock;
+        clock_read = subst (λ (e : DeskEnd C). HasRead (readings e.tools.clock) base.before (plain turns)) (sym is) stands.clock;
+        sent = subst (λ (e : DeskEnd C). HasSent base.sender e.tools.sender (entries_recorded base.config (plain turns))) (sym is) stands.sent;
       })
 
-  pub read-began : (clock : C) (base : RunBase) (seen : List ServerTurn) → IsRead readings clock base seen → Began base.config base.until base.before (readings clock)
-  read-began clock base seen read = record { turns = plain seen; run = read.run; clock_read = read.clock_read }
+  pub read-began : (tools : Tools C) (base : RunBase) (seen : List ServerTurn) → IsRead readings tools base seen → BeganFrom readings base tools
+  read-began tools base seen read = record { turns = plain seen; run = read.run; clock_read = read.clock_read; of_record = read.sent }
 
   -- no turn was taken
-  pub none-began : (clock : C) (base : RunBase) → HasRead (readings clock) base.before [] → Began base.config base.until base.before (readings clock)
-  none-began clock base read = record { turns = []; run = tt; clock_read = read }
+  pub none-began : (tools : Tools C) (base : RunBase) → HasRead (readings tools.clock) base.before [] → tools.sender ≡ base.sender → BeganFrom readings base tools
+  none-began tools base read sender = record {
+    turns = [];
+    run = tt;
+    clock_read = read;
+    of_record = subst (λ (s : Option Sending). HasSent s tools.sender []) sender (none-sent tools.sender);
+  }
 
   pub carries-on : {I O E : Type 0} (base : RunBase) (r : Result (Stand C I O) E) (pass : PassOf (AgentDesk C) Input Heard) → IfOk r (λ stand. stand.pass ≡ pass)
       → Carries (StandsBy readings) (known pass) base → IfOk r (λ stand. Carries (StandsBy readings) (known stand.pass) base)
@@ -270,13 +284,13 @@ finished-late told before config until turns front (Some entry) is tick each run
       | inr left ↦ absurd (no-leave config front entry.0 entry.1 each' left)
     ]
 
-pub finished-passed : {C : Type 0} (readings : C → Option (List ℕ)) (clock : C) (base : RunBase) (seen : List ServerTurn) → IsRead readings clock base seen → FinishedAlone seen
-    → HasPassed (readings clock) base.until
-finished-passed readings clock base seen read finished =
+pub finished-passed : {C : Type 0} (readings : C → Option (List ℕ)) (tools : Tools C) (base : RunBase) (seen : List ServerTurn) → IsRead readings tools base seen → FinishedAlone seen
+    → HasPassed (readings tools.clock) base.until
+finished-passed readings tools base seen read finished =
     let same = plain-own seen read.numbered finished.alone in
     let (front, x, is, tick) = finished.last in
-    finished-late (readings clock) base.before base.config base.until (of 0 seen) front x is tick finished.asks (subst (IsRun base.config base.until) same read.run)
-    (subst (HasRead (readings clock) base.before) same read.clock_read)
+    finished-late (readings tools.clock) base.before base.config base.until (of 0 seen) front x is tick finished.asks (subst (IsRun base.config base.until) same read.run)
+    (subst (HasRead (readings tools.clock) base.before) same read.clock_read)
 
 -- ---- the passes of the workers
 
@@ -456,14 +470,14 @@ socket-ran told hears (worker.Link alloc shared begun link auth acct) socket pas
 
 -- ---- the end of a run without workers
 
-pub ends-early : {C : Type 0} (readings : C → Option (List ℕ)) (clock : C) (base : RunBase) (seen : List ServerTurn) (status : Status) (d e : Dials) (twin start : Type 0)
-    → IsRead readings clock base seen → FirstFails status seen d e twin → EndsEarly status (readings clock) base.until d e twin start
-ends-early readings clock base seen OutOfMemory d e twin start read fails = tt
-ends-early readings clock base seen LinkFault d e twin start read (rose, inl many) = (rose, inl many)
-ends-early readings clock base seen LinkFault d e twin start read (rose, inr (some, finished)) =
-    (rose, inr (some, finished-passed readings clock base seen read finished))
-ends-early readings clock base seen DatagramFault d e twin start read fails = fails
-ends-early readings clock base seen status d e twin start read fails = absurd fails
+pub ends-early : {C : Type 0} (readings : C → Option (List ℕ)) (tools : Tools C) (base : RunBase) (seen : List ServerTurn) (status : Status) (d e : Dials) (twin start : Type 0)
+    → IsRead readings tools base seen → FirstFails status seen d e twin → EndsEarly status (readings tools.clock) base.until d e twin start
+ends-early readings tools base seen OutOfMemory d e twin start read fails = tt
+ends-early readings tools base seen LinkFault d e twin start read (rose, inl many) = (rose, inl many)
+ends-early readings tools base seen LinkFault d e twin start read (rose, inr (some, finished)) =
+    (rose, inr (some, finished-passed readings tools base seen read finished))
+ends-early readings tools base seen DatagramFault d e twin start read fails = fails
+ends-early readings tools base seen status d e twin start read fails = absurd fails
 
 pub carries-same : {C : Type 0} (readings : C → Option (List ℕ)) (k l : Known (AgentDesk C) Input Heard) (base : RunBase) → l.first ≡ k.first
     → Carries (StandsBy readings) k base → Carries (StandsBy readings) l base
@@ -483,6 +497,9 @@ served-from readings told hears speaks config until before auth acct auth' acct'
     subst (λ (n : ℕ). IfSome trail (λ t. Served readings told hears speaks config until before auth acct auth' acct' dials dials' n now clock t status)) same served
 
 -- ---- whether there is a trail
+
+pub none-started : (n : ℕ) → n < n + 3
+none-started n = omega arith
 
 pub has-trail : {A : Type 0} (trail : Option A) (before then now : ℕ) → IsSome trail → RoseBy 3 before then → then ≤ now → HasTrail trail before now
 has-trail None before then now some rose more = absurd (true≢false (sym some))

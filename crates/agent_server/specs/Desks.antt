@@ -1,15 +1,17 @@
 -- When a desk stands for the turns of a run.
-use Rattle.std.specs.Prelude.{◌≡◌, ℕ, ◌-◌, ◌^◌, Bool, max, min, nat_le, ◌||◌, false, true, ◌+◌, ◌≤◌, List, [], ◌∷◌, ◌++◌, length, Option, Some, None}
+use Rattle.std.specs.Prelude.{◌≡◌, ℕ, ◌-◌, ◌^◌, Bool, max, min, nat_le, ◌||◌, false, true, ◌+◌, ◌≤◌, List, [], ◌∷◌, ◌++◌, length, map, Option, Some, None, if◌then◌else◌}
 use Rattle.wire_core.specs.Counts.{one_more}
 use Rattle.agent_events.specs.declared.events.Input.{Input}
 use Rattle.agent_events.specs.declared.events.Output.{Output}
-use Rattle.agent_core.specs.Places.{now}
+use Rattle.agent_core.specs.Places.{Event, now}
 use Rattle.agent_events.specs.Kinds.{is_drain}
 use Rattle.agent_core.specs.Standing.{StandsFor}
+use Rattle.run_record.specs.declared.entry.Entry.{Entry}
+use Rattle.run_record.specs.Recordings.{Sending}
 use Rattle.agent_server.specs.declared.desk.AgentDesk.{AgentDesk}
 use Rattle.server_workers.specs.declared.base.RunBase.{RunBase}
 use Rattle.server_workers.specs.declared.heard.Heard.{Heard}
-use Rattle.agent_server.specs.Runs.{IsRun, closed, closed_with, handed_over, has_left, history, others_in, places_of, unsent, unsent_with}
+use Rattle.agent_server.specs.Runs.{IsRun, closed, closed_with, handed_over, has_left, history, others_in, places_of, entries_recorded, unsent, unsent_with}
 use Rattle.agent_events.specs.Kinds.{is_leave}
 
 -- Each turn took one reading of the clock, in order, and the moment of an entry is the greatest reading of the entries up
@@ -26,6 +28,16 @@ AreRead greatest (Some entry ∷ turns) (reading ∷ readings) =
 abbrev pub HasRead : Option (List ℕ) → List ℕ → List (Option (Input × Heard)) → Type 0
 HasRead told before turns = (all : List ℕ) → told ≡ Some all → (readings : List ℕ) × (all ≡ before ++ readings) × AreRead 0 turns readings
 
+-- an entry of a record as an event
+abbrev pub event : Entry → Event
+event entry = record { moment = entry.moment; input = entry.input }
+
+-- the sender of a record, as it was and as it is now, was given these events since; there may be none
+abbrev pub HasSent : Option Sending → Option Sending → List Event → Type 0
+HasSent None sender events = sender ≡ None
+HasSent (Some before) sender events =
+    (now : Sending) × (sender ≡ Some now) × (now.queue ≡ before.queue) × (map event now.told ≡ map event before.told ++ events)
+
 module _ {C : Type 0} (readings : C → Option (List ℕ)) where
   pub record StandsBy (desk : AgentDesk C) (base : RunBase) (turns : List (Option (Input × Heard))) : Type 0 where
     pub config : desk.core.config ≡ base.config
@@ -38,6 +50,7 @@ module _ {C : Type 0} (readings : C → Option (List ℕ)) where
     pub left : desk.left ≡ has_left (places_of base.config turns)
     pub entries : desk.entries ≡ min (length (history turns)) (2 ^ 64 - 1)
     pub clock : HasRead (readings desk.clock) base.before turns
+    pub sent : HasSent base.sender desk.sender (entries_recorded base.config turns)
 
 -- what an entry makes of a desk: what the core gave for it, and whether it began a link
 pub record Enters {C : Type 0} (old new : AgentDesk C) (time : ℕ) (ask : Input) (begun : Bool) (all : List Output) (answer : Heard) : Type 0 where
@@ -49,6 +62,7 @@ pub record Enters {C : Type 0} (old new : AgentDesk C) (time : ℕ) (ask : Input
   pub closed : new.closed ≡ closed_with begun old.closed all
   pub left : new.left ≡ (old.left || is_leave ask)
   pub entries : new.entries ≡ one_more old.entries
+  pub sender : new.sender ≡ old.sender
   pub heard : answer ≡ record {
     moment = time;
     outputs = others_in all;
@@ -76,3 +90,21 @@ pub record IsSame {C : Type 0} (old new : AgentDesk C) : Type 0 where
   pub closed : new.closed ≡ old.closed
   pub left : new.left ≡ old.left
   pub entries : new.entries ≡ old.entries
+  pub sender : new.sender ≡ old.sender
+
+-- what was given to the sender with this entry
+abbrev pub sent_with : Bool → Entry → List Entry
+sent_with idle entry = if idle then [] else entry ∷ []
+
+-- what is given to the record of this entry: nothing where it is idle; all else stays
+pub record Tells {C : Type 0} (old new : AgentDesk C) (time : ℕ) (ask : Input) (idle : Bool) : Type 0 where
+  pub core : new.core ≡ old.core
+  pub clock : new.clock ≡ old.clock
+  pub until : new.until ≡ old.until
+  pub moment : new.moment ≡ old.moment
+  pub outbox : new.outbox.items ≡ old.outbox.items
+  pub closed : new.closed ≡ old.closed
+  pub left : new.left ≡ old.left
+  pub entries : new.entries ≡ old.entries
+  pub sent : (before : Option Sending) (events : List Event) → HasSent before old.sender events
+      → HasSent before new.sender (events ++ map event (sent_with idle (record { moment = time; input = ask })))

@@ -3,3 +3,4 @@ pub mod Runs
 pub mod Server
 pub mod Spans
 pub mod Starting
+pub mod Ran

@@ -10,6 +10,7 @@ use Rattle.agent_events.specs.declared.events.Output.{Output}
 use Rattle.agent_events.specs.declared.events.Output.TheVariants.{Send, Closed}
 use Rattle.agent_core.specs.Places.{Event, Place, begins}
 use Rattle.agent_core.specs.History.{past, place}
+use Rattle.agent_core.specs.LawsOfSends.{without_idle}
 use Rattle.server_workers.specs.declared.heard.Heard.{Heard}
 
 -- ---- outputs
@@ -96,6 +97,10 @@ IsRunFrom config until ps (Some entry ∷ turns) =
 
 abbrev pub IsRun : Config → ℕ → List (Option (Input × Heard)) → Type 0
 IsRun config until turns = IsRunFrom config until [] turns
+
+-- the entries of a run that aren't idle, which are those that its record has
+abbrev pub entries_recorded : Config → List (Option (Input × Heard)) → List Event
+entries_recorded config turns = without_idle config [] (history turns)
 
 -- the places of a run, the newest first
 abbrev pub places_of : Config → List (Option (Input × Heard)) → List Place

@@ -24,7 +24,8 @@ use Rattle.agent_server.specs.Desks.{HasRead}
 use Rattle.server_workers.specs.Entries.{HasLeave, RunTurn, is_final, replies_by, ticks}
 use Rattle.server_workers.specs.LinkReading.{LinkMayTake}
 use Rattle.server_workers.specs.Running.{LeftAtEnd, RoseBy}
-use Rattle.agent_server.specs.Runs.{IsRun, history, places_of}
+use Rattle.agent_core.specs.Places.{Event}
+use Rattle.agent_server.specs.Runs.{IsRun, history, places_of, entries_recorded}
 use Rattle.server_workers.specs.Serving.{AllBut, AreUnopened, FirstWasRead, IsUp, MayWrite, Spanned, WasRead}
 use Rattle.server_workers.specs.SocketReading.{ServedSocket, SocketMayTake}
 use Rattle.agent_server.specs.Spans.{SpansFit, closings}
@@ -181,11 +182,13 @@ abbrev pub HasTrail : {A : Type 0} → Option A → ℕ → ℕ → Type 0
 HasTrail {A} None started started' = started' < started + 3
 HasTrail {A} (Some trail) started started' = RoseBy 3 started started'
 
--- These turns were all of a run, and each took one reading of the clock, which had told these readings before.
-pub record Began (config : Config) (until : ℕ) (before : List ℕ) (told : Option (List ℕ)) : Type 0 where
+-- These turns were all of a run, and each took one reading of the clock, which had told these readings before. `has` is what
+-- holds of the entries that a record of the run has.
+pub record Began (config : Config) (until : ℕ) (before : List ℕ) (told : Option (List ℕ)) (has : List Event → Type 0) : Type 0 where
   pub turns : List RunTurn
   pub run : IsRun config until turns
   pub clock_read : HasRead told before turns
+  pub of_record : has (entries_recorded config turns)
 
 -- a reading of the clock is at or past that moment, where it tells its readings
 abbrev pub HasPassed : Option (List ℕ) → ℕ → Type 0

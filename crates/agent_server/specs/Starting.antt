@@ -23,16 +23,18 @@ use Rattle.server_workers.specs.declared.heard.Heard.{Heard}
 use Rattle.server_workers.specs.declared.running.Past.{Past}
 use Rattle.server_workers.specs.declared.running.RunEnd.{RunEnd}
 use Rattle.server_workers.specs.declared.running.Twins.{Twins}
-use Rattle.agent_server.specs.declared.server.FirstLink.{FirstLink}
-use Rattle.agent_server.specs.declared.server.Shares.{Shares}
-use Rattle.agent_server.specs.declared.server.SocketBack.{SocketBack}
-use Rattle.agent_server.specs.declared.server.Stand.{Stand}
+use Rattle.agent_server.specs.declared.stand.FirstLink.{FirstLink}
+use Rattle.agent_server.specs.declared.stand.Shares.{Shares}
+use Rattle.agent_server.specs.declared.team.SocketBack.{SocketBack}
+use Rattle.agent_server.specs.declared.stand.Stand.{Stand}
 use Rattle.server_workers.specs.declared.workers.Worker.{Worker}
 use Rattle.server_workers.specs.declared.workers.Worker.TheVariants as worker
-use Rattle.agent_server.specs.Desks.{HasRead, StandsBy}
+use Rattle.agent_server.specs.declared.desk.Tools.{Tools}
+use Rattle.agent_server.specs.Desks.{HasRead, HasSent, StandsBy}
 use Rattle.server_workers.specs.Entries.{EachEntry, EndsWith, ticks}
 use Rattle.server_workers.specs.Running.{Ends, IsFinishedTick, Opened, RoseBy, StopsFor}
-use Rattle.agent_server.specs.Runs.{IsRun}
+use Rattle.agent_server.specs.Runs.{IsRun, entries_recorded}
+use Rattle.agent_server.specs.Server.{Began}
 use Rattle.server_workers.specs.Serving.{IsTick}
 use Rattle.server_workers.specs.SocketReading.{ReadsSocket}
 use Rattle.server_workers.specs.Segments.{ServerTurn}
@@ -55,11 +57,18 @@ pub record IsReady {C I O : Type 0} (stand : Stand C I O) : Type 0 where
   pub again : stand.past.again ≡ 0
   pub room : 256 ≤ vec_capacity stand.past.pairs
 
--- what a turnstile was whose clock is left: its turns were a run, which the clock has read
-pub record IsRead {C : Type 0} (readings : C → Option (List ℕ)) (clock : C) (base : RunBase) (seen : List ServerTurn) : Type 0 where
+-- what a turnstile was of whose desk this is left: its turns were a run, which the clock has read, and which was recorded
+-- where there is a sender
+pub record IsRead {C : Type 0} (readings : C → Option (List ℕ)) (tools : Tools C) (base : RunBase) (seen : List ServerTurn) : Type 0 where
   pub run : IsRun base.config base.until (plain seen)
   pub numbered : Numbered seen
-  pub clock_read : HasRead (readings clock) base.before (plain seen)
+  pub clock_read : HasRead (readings tools.clock) base.before (plain seen)
+  pub sent : HasSent base.sender tools.sender (entries_recorded base.config (plain seen))
+
+-- a run began from this base, and this is left of its desk
+abbrev pub BeganFrom : {C : Type 0} → (C → Option (List ℕ)) → RunBase → Tools C → Type 0
+BeganFrom {C} readings base tools =
+    Began base.config base.until base.before (readings tools.clock) (HasSent base.sender tools.sender)
 
 -- ---- the first link
 

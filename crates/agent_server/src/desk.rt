@@ -1,21 +1,24 @@
 //! One core behind a clock, at which threads take turns.
 
-ghost use Rattle.std.specs.Prelude.{◌≡◌, ◌+◌, ◌<◌, ◌≤◌, ◌++◌, [], ◌∷◌, List, ℕ, length, map, vec_capacity, vec_len, true, false, IfOk, OnErr, Some, None};
+ghost use Rattle.std.specs.Prelude.{◌≡◌, ◌==◌, ◌&&◌, ◌+◌, ◌<◌, ◌≤◌, ◌++◌, [], ◌∷◌, List, ℕ, length, map, vec_capacity, vec_len, true, false, IfOk, OnErr, Some, None};
 ghost use Rattle.wire_core.specs.Counts.{one_more};
 ghost use Rattle.agent_core.specs.Places.{Event, begins as begins_link, is_serving, now, waiting, link};
 ghost use Rattle.agent_events.specs.Kinds.{is_drain as drain_test};
 ghost use Rattle.agent_core.specs.History.{outputs_after, past};
 ghost use Rattle.agent_core.specs.Standing.{StandsFor};
-ghost use Rattle.agent_server.specs.Desks.{Enters, HasRead, HasRoom, IsCalm, IsSame, StandsBy};
+ghost use Rattle.agent_core.specs.LawsOfSends.{leaves_all};
+ghost use Rattle.agent_server.specs.Desks.{Enters, HasRead, HasRoom, IsCalm, IsSame, StandsBy, Tells};
 ghost use Rattle.agent_server.specs.Runs.{closed_with, handed_over, is_send as send_test, last_cause, others_in, sends_in};
 ghost use Rattle.agent_events.specs.Kinds.{is_leave as leave_test};
 
 use agent_core::Core;
 use agent_events::{Input, Output, Outputs};
 use peer_machine::{LinkCause, Phase};
+use run_record::{Entry, EntrySender};
 use server_workers::{Heard, RunBase};
 use std::alloc::Global;
 use std::mem;
+use std::sync::Wait;
 use turnstile::Desk;
 use wire_core::NoMemory;
 use wire_devices::Clock;
@@ -23,8 +26,8 @@ use wire_devices::Clock;
 /// How many things go out for one event beside what is sent again.
 const MOST_OUTPUTS: usize = 3;
 
-/// One core behind a clock, and what was sent on the link and is to be handed over. Contracts say for which turns it
-/// stands.
+/// One core behind a clock, and what was sent on the link and is to be handed over. Where the run is recorded, each entry
+/// that isn't idle is given to the sender of the record in its own turn. Contracts say for which turns a desk stands.
 #[derive(Drop)]
 pub struct AgentDesk<C> {
     alloc: Global,
@@ -38,6 +41,7 @@ pub struct AgentDesk<C> {
     /// Whether the agent wanted to end.
     left: bool,
     entries: u64,
+    sender: Option<EntrySender>,
 }
 
 fn is_send(output: &Output) -> bool
@@ -56,6 +60,19 @@ fn is_leave(input: &Input) -> bool
     ensures { result ≡ leave_test input.now }
 {
     matches!(input, Input::Leave)
+}
+
+/// Whether an entry may be left out of the record: a Tick, or a Drain where nothing is to be handed over, at which nothing
+/// goes out. `outbox` is how much was to be handed over before it.
+fn is_idle(input: &Input, outbox: u32, outputs: &[Output]) -> bool
+    ensures { result ≡ (leaves_all input.now outbox && length outputs.now == 0) }
+{
+    let calm = match input {
+        Input::Tick => true,
+        Input::Drain => outbox == 0,
+        _ => false,
+    };
+    calm && outputs.is_empty()
 }
 
 /// Puts an output behind others, where there is room for it.
@@ -96,10 +113,17 @@ fn last_cause_in(outputs: &[Output]) -> Option<LinkCause>
 }
 
 impl<C: Clock> AgentDesk<C> {
-    /// A desk before any turn, which ends its run at the moment `until`, in milliseconds. The core is new.
-    pub fn new(alloc: Global, core: Core, clock: C, until: u64) -> AgentDesk<C>
+    /// A desk before any turn, which ends its run at the moment `until`, in milliseconds. The core is new, and so is the
+    /// sender of a record.
+    pub fn new(
+        alloc: Global,
+        core: Core,
+        clock: C,
+        until: u64,
+        sender: Option<EntrySender>,
+    ) -> AgentDesk<C>
         ensures { (base : RunBase) → StandsFor core [] → core.config ≡ base.config → until ≡ base.until
-            → HasRead (C.readings clock) base.before [] → StandsBy C.readings result base [] }
+            → HasRead (C.readings clock) base.before [] → sender ≡ base.sender → StandsBy C.readings result base [] }
     {
         AgentDesk {
             alloc,
@@ -111,6 +135,7 @@ impl<C: Clock> AgentDesk<C> {
             closed: None,
             left: false,
             entries: 0,
+            sender,
         }
     }
 }
@@ -138,9 +163,16 @@ fn next_cause(begun: bool, before: Option<LinkCause>, outputs: &[Output]) -> Opt
     }
 }
 
+/// What a desk is given, and gives back at the end.
+pub(crate) struct Tools<C> {
+    pub clock: C,
+    /// Where the run is recorded.
+    pub sender: Option<EntrySender>,
+}
+
 /// What is left of a desk.
 pub(crate) struct DeskEnd<C> {
-    pub clock: C,
+    pub tools: Tools<C>,
     /// How many turns had an answer. It stops at 2^64 - 1.
     pub entries: u64,
     /// Why the link was closed, where it was and none began since.
@@ -149,10 +181,13 @@ pub(crate) struct DeskEnd<C> {
 
 impl<C> AgentDesk<C> {
     pub(crate) fn into_end(self) -> DeskEnd<C>
-        ensures { result ≡ record { clock = self.clock; entries = self.entries; closed = self.closed } }
+        ensures { result ≡ record { tools = record { clock = self.clock; sender = self.sender }; entries = self.entries; closed = self.closed } }
     {
         DeskEnd {
-            clock: self.clock,
+            tools: Tools {
+                clock: self.clock,
+                sender: self.sender,
+            },
             entries: self.entries,
             closed: self.closed,
         }
@@ -213,6 +248,18 @@ impl<C> AgentDesk<C> {
             closed: self.closed,
         }
     }
+
+    /// Gives an entry to the record, where there is one, unless it is idle.
+    fn tell<R: Wait>(&mut self, rt: &R, moment: u64, input: Input, idle: bool)
+        ensures { Tells self.old self.new moment input idle }
+    {
+        if idle {
+            return;
+        }
+        if let Some(sender) = &mut self.sender {
+            sender.send(rt, Entry { moment, input });
+        }
+    }
 }
 
 impl<C: Clock> Desk for AgentDesk<C> {
@@ -228,12 +275,16 @@ impl<C: Clock> Desk for AgentDesk<C> {
 
     ghost refuses = { λ ask refusal. Unit {0} };
 
-    fn step(&mut self, ask: &Input) -> Result<Heard, NoMemory> {
+    fn step<R: Wait>(&mut self, rt: &R, ask: Input) -> Result<Heard, NoMemory> {
         agent_core::past_goes_on();
         let moment = self.moment.max(self.clock.now());
         let room = self.make_room(moment)?;
-        let begun = self.core.begins(ask);
-        let all = self.core.step(self.alloc, moment, ask)?;
-        Ok(self.enter(moment, ask, begun, all.into_vec(), room))
+        let begun = self.core.begins(&ask);
+        let outbox = self.core.outbox();
+        let all = self.core.step(self.alloc, moment, &ask)?;
+        let idle = is_idle(&ask, outbox, all.as_slice());
+        let heard = self.enter(moment, &ask, begun, all.into_vec(), room);
+        self.tell(rt, moment, ask, idle);
+        Ok(heard)
     }
 }

@@ -2,10 +2,14 @@
 #![tactic(auto)]
 
 mod desk;
+mod recorded;
 mod server;
+mod stand;
+mod team;
 mod trail;
 
 pub use desk::AgentDesk;
+pub use recorded::{RecordedRun, record};
 pub use server::{Finish, World, serve};
 pub use server_workers::{Ended, Heard, Links, Pair, RunBase};
 pub use trail::Trail;

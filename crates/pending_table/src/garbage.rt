@@ -11,23 +11,25 @@ use wire_core::NoMemory;
 /// How many dropped things of each kind are kept at most.
 const MOST: usize = 512;
 
-/// For how many steps nothing of a kind need be freed.
-const PATIENCE: usize = 16;
+/// Where more of a kind are kept, two are freed for each that is taken.
+const FEW: usize = 64;
 
-/// What was dropped of one kind, oldest first. Each step owes that one of them is freed.
+/// After how many steps what was kept before them is freed.
+const AGE: usize = 512;
+
+/// What was dropped of one kind, oldest first.
 #[derive(Drop)]
 struct Dropped<T> {
     kept: VecDeque<T>,
-    /// How many steps went by since the last was freed.
-    owed: usize,
-    ghost few: { owed < 16 },
+    /// How many of them were dropped before the age began.
+    old: usize,
 }
 
 impl<T: Drop> Dropped<T> {
     fn new(alloc: Global) -> Result<Dropped<T>, NoMemory> {
         Ok(Dropped {
             kept: VecDeque::with_capacity(alloc, MOST)?,
-            owed: 0,
+            old: 0,
         })
     }
 
@@ -38,33 +40,41 @@ impl<T: Drop> Dropped<T> {
         }
     }
 
-    /// Frees as many as are owed, and one.
+    /// Frees the oldest.
     fn free(&mut self) {
-        for _ in 0..=self.owed {
-            let _ = self.kept.pop_front();
-        }
-        self.owed = 0;
+        let _ = self.kept.pop_front();
+        self.old = self.old.saturating_sub(1);
     }
 
-    /// A step went by.
-    fn owe(&mut self) {
-        if self.owed + 1 < PATIENCE {
-            self.owed += 1;
-        } else {
+    /// One of the kind is taken: frees one, and two where more than a few are kept.
+    fn free_for_one(&mut self) {
+        if self.kept.len() > FEW {
             self.free();
         }
+        self.free();
+    }
+
+    /// An age ends: frees what was dropped before it began.
+    fn end_age(&mut self) {
+        for _ in 0..self.old {
+            let _ = self.kept.pop_front();
+        }
+        self.old = self.kept.len();
     }
 }
 
 /// What was dropped, until the thread that took its memory gives it back: an allocator has memory ready for the thread that
 /// freed it, and it costs more to free what another thread took. Those that put rows in take the memory of a row and of
-/// what it sent, and those that settle it that of a reply. What is kept holds passwords, so none is kept for longer than
-/// as many steps as there are things kept with it, and `PATIENCE`.
+/// what it sent, and those that settle it that of a reply. What is kept holds passwords, so none is kept for more than
+/// two ages.
 #[derive(Drop)]
 pub(crate) struct Garbage {
     rows: Dropped<Row>,
     sent: Dropped<Answer>,
     replies: Dropped<Answer>,
+    /// How many steps of the age went by.
+    steps: usize,
+    ghost few: { steps < 512 },
 }
 
 impl Garbage {
@@ -73,6 +83,7 @@ impl Garbage {
             rows: Dropped::new(alloc)?,
             sent: Dropped::new(alloc)?,
             replies: Dropped::new(alloc)?,
+            steps: 0,
         })
     }
 
@@ -90,19 +101,24 @@ impl Garbage {
 
     /// Frees what the next row that goes in takes anew.
     pub(crate) fn free_row(&mut self) {
-        self.rows.free();
-        self.sent.free();
+        self.rows.free_for_one();
+        self.sent.free_for_one();
     }
 
     /// Frees what the next reply takes anew.
     pub(crate) fn free_reply(&mut self) {
-        self.replies.free();
+        self.replies.free_for_one();
     }
 
     /// A step went by.
     pub(crate) fn pass(&mut self) {
-        self.rows.owe();
-        self.sent.owe();
-        self.replies.owe();
+        if self.steps + 1 < AGE {
+            self.steps += 1;
+        } else {
+            self.steps = 0;
+            self.rows.end_age();
+            self.sent.end_age();
+            self.replies.end_age();
+        }
     }
 }

@@ -6,6 +6,7 @@ use agent_server::{AgentDesk, Heard};
 use octets::settings;
 use peer_machine::LinkCause;
 use std::hash::RandomState;
+use std::sync::Wait;
 use std::test::Fail;
 use turnstile::Desk;
 use wire_core::NoMemory;
@@ -14,6 +15,7 @@ use wire_devices::MemoryClock;
 mod failing_devices;
 mod links;
 mod octets;
+mod records;
 mod runs;
 mod sockets;
 mod waiting;
@@ -32,24 +34,25 @@ fn told(heard: &Heard) -> Told {
     )
 }
 
-fn answers(
+fn answers<R: Wait>(
+    rt: &R,
     desk: &mut AgentDesk<MemoryClock>,
-    input: &Input,
+    input: Input,
     wanted: Told,
 ) -> Result<bool, NoMemory> {
-    Ok(told(&desk.step(input)?) == wanted)
+    Ok(told(&desk.step(rt, input)?) == wanted)
 }
 
 /// The clock goes back once. The capabilities go out at the Up, and are handed over at the Drain; a Down closes the link,
 /// until the next Up; the last reading is at the end of the run.
-fn answers_turns(desk: &mut AgentDesk<MemoryClock>) -> Result<bool, NoMemory> {
+fn answers_turns<R: Wait>(rt: &R, desk: &mut AgentDesk<MemoryClock>) -> Result<bool, NoMemory> {
     Ok(
-        answers(desk, &Input::Up, (10, 0, 0, false, false))?
-            && answers(desk, &Input::Drain, (20, 0, 1, false, false))?
-            && answers(desk, &Input::Drain, (20, 0, 0, false, false))?
-            && answers(desk, &Input::Down, (30, 1, 0, false, true))?
-            && answers(desk, &Input::Up, (40, 0, 0, false, false))?
-            && answers(desk, &Input::Drain, (50, 0, 1, true, false))?,
+        answers(rt, desk, Input::Up, (10, 0, 0, false, false))?
+            && answers(rt, desk, Input::Drain, (20, 0, 1, false, false))?
+            && answers(rt, desk, Input::Drain, (20, 0, 0, false, false))?
+            && answers(rt, desk, Input::Down, (30, 1, 0, false, true))?
+            && answers(rt, desk, Input::Up, (40, 0, 0, false, false))?
+            && answers(rt, desk, Input::Drain, (50, 0, 1, true, false))?,
     )
 }
 
@@ -57,8 +60,8 @@ fn answers_turns(desk: &mut AgentDesk<MemoryClock>) -> Result<bool, NoMemory> {
 fn turns_at_a_desk(rt: HostRuntime) -> Result<(), Fail> {
     let clock = MemoryClock::new(vec![in rt.alloc(); 10, 20, 15, 30, 40, 50]?);
     let core = Core::new(rt.alloc(), RandomState::new(&rt)?, settings(rt.alloc())?)?;
-    let mut desk = AgentDesk::new(rt.alloc(), core, clock, 50);
-    let answers = answers_turns(&mut desk);
+    let mut desk = AgentDesk::new(rt.alloc(), core, clock, 50, None);
+    let answers = answers_turns(&rt, &mut desk);
     drop(desk);
     assert!(rt; answers?);
     Ok(())

@@ -27,11 +27,11 @@ impl Desk for Counter {
 
     ghost refuses = { λ _ _. ⊤ };
 
-    fn step(&mut self, ask: &u64) -> Result<u64, ()> {
-        if *ask == 0 {
+    fn step<R: Wait>(&mut self, _rt: &R, ask: u64) -> Result<u64, ()> {
+        if ask == 0 {
             return Err(());
         }
-        self.sum = self.sum.wrapping_add(*ask);
+        self.sum = self.sum.wrapping_add(ask);
         Ok(self.sum)
     }
 }
@@ -48,9 +48,9 @@ fn three_visits<R: Wait>(
     ensures table { table_of pass.new ≡ table_of pass.old }
     ensures numbers { (known pass.new).numbers ≡ (known pass.old).numbers }
 {
-    let first = turnstile.visit(rt, pass, &5);
-    let second = turnstile.visit(rt, pass, &0);
-    let third = turnstile.visit(rt, pass, &7);
+    let first = turnstile.visit(rt, pass, 5);
+    let second = turnstile.visit(rt, pass, 0);
+    let third = turnstile.visit(rt, pass, 7);
     (first, second, third)
 }
 
@@ -65,7 +65,7 @@ fn visit_often<R: Wait>(
     ensures numbers { (known result).numbers ≡ (known pass).numbers }
 {
     for _ in 0..times {
-        let _ = turnstile.visit(rt, &mut pass, &1);
+        let _ = turnstile.visit(rt, &mut pass, 1);
     }
     pass
 }

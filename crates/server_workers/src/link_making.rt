@@ -37,7 +37,7 @@ fn tick<R: Wait, T: Desk<Ask = Input, Answer = Heard, Refusal = NoMemory, Base =
     ensures table { table_of pass.new ≡ table_of pass.old }
     ensures ticked { (turn : RunTurn) × Went (turn ∷ []) (known pass.old) (known pass.new) × TookTick result turn }
 {
-    match enter(rt, turnstile, pass, &Input::Tick) {
+    match enter(rt, turnstile, pass, Input::Tick) {
         Some(heard) => heard.finished,
         None => false,
     }

@@ -103,11 +103,12 @@ impl<
     D: Datagrams,
 > Visitor<T, D> {
     /// Enters an input, and sends the replies that come of it. True where the reader stops after it.
-    fn visit<R: Wait>(&mut self, rt: &R, turnstile: &Turnstile<T>, input: &Input) -> bool
+    fn visit<R: Wait>(&mut self, rt: &R, turnstile: &Turnstile<T>, input: Input) -> bool
         requires { table_of self.old.pass ≡ turnstile.now }
         ensures table { table_of self.new.pass ≡ table_of self.old.pass }
-        ensures visits { Visits D.told input.now result self.old self.new }
+        ensures visits { Visits D.told input result self.old self.new }
     {
+        let framed = is_framed(&input);
         match enter(rt, turnstile, &mut self.pass, input) {
             Some(heard) => {
                 send_replies(
@@ -118,7 +119,7 @@ impl<
                 is_last(&heard)
             }
             None => {
-                if is_framed(input) {
+                if framed {
                     self.lost = self.lost.saturating_add(1);
                 }
                 false
@@ -134,7 +135,7 @@ impl<
             → SoFar D.told piece start self.old link framer
             → MatchBool result (Stops D.told start self.new link framer) (SoFar D.told piece start self.new link framer) }
     {
-        let over = self.visit(rt, turnstile, &Input::Tick);
+        let over = self.visit(rt, turnstile, Input::Tick);
         self.again = self.again.saturating_add(1);
         over
     }
@@ -227,10 +228,10 @@ fn take_messages<
                     return false;
                 }
                 frames.broken = true;
-                return visitor.visit(rt, turnstile, &Input::Broken { fault });
+                return visitor.visit(rt, turnstile, Input::Broken { fault });
             }
             Some(Next::Message(octets)) => {
-                if visitor.visit(rt, turnstile, &Input::Message { octets }) {
+                if visitor.visit(rt, turnstile, Input::Message { octets }) {
                     return true;
                 }
             }
@@ -295,15 +296,15 @@ fn look<
     match link.receive(buf) {
         LinkGot::Bytes(count) => {
             if count == 0 {
-                return visitor.visit(rt, turnstile, &Input::Down);
+                return visitor.visit(rt, turnstile, Input::Down);
             }
             take_piece(rt, turnstile, visitor, frames, &buf[..count])
         }
-        LinkGot::Nothing => visitor.visit(rt, turnstile, &Input::Tick),
-        LinkGot::Ended => visitor.visit(rt, turnstile, &Input::Down),
+        LinkGot::Nothing => visitor.visit(rt, turnstile, Input::Tick),
+        LinkGot::Ended => visitor.visit(rt, turnstile, Input::Down),
         LinkGot::Failed => {
             *failed = true;
-            visitor.visit(rt, turnstile, &Input::Down)
+            visitor.visit(rt, turnstile, Input::Down)
         }
     }
 }

@@ -123,10 +123,10 @@ fn drain<
     ensures table { table_of pass.new ≡ table_of pass.old }
     ensures wrote { WroteRound result sound.old sound.new (known pass.old) (known pass.new) (O.told link.old) (O.told link.new) }
 {
-    let heard = enter(rt, turnstile, pass, &Input::Drain)?;
+    let heard = enter(rt, turnstile, pass, Input::Drain)?;
     if *sound && !send_all(alloc, link, heard.sends.as_slice()) {
         *sound = false;
-        let _ = enter(rt, turnstile, pass, &Input::Down);
+        let _ = enter(rt, turnstile, pass, Input::Down);
     }
     Some(heard)
 }
@@ -148,7 +148,7 @@ fn leave<
     ensures table { table_of pass.new ≡ table_of pass.old }
     ensures took { TookLeave result sound.old sound.new (known pass.old) (known pass.new) (O.told link.old) (O.told link.new) }
 {
-    let Some(_) = enter(rt, turnstile, pass, &Input::Leave) else {
+    let Some(_) = enter(rt, turnstile, pass, Input::Leave) else {
         return WriterEnd::NoMemory;
     };
     match drain(rt, alloc, turnstile, pass, link, sound) {

@@ -253,10 +253,10 @@ fn leave<R: Wait, T: Desk<Ask = Input, Answer = Heard, Refusal = NoMemory, Base 
     ensures table { table_of pass.new ≡ table_of pass.old }
     ensures left { TakesLeaveAlone result (known pass.old) (known pass.new) }
 {
-    let Some(_) = enter(rt, turnstile, pass, &Input::Leave) else {
+    let Some(_) = enter(rt, turnstile, pass, Input::Leave) else {
         return RunEnd::NoMemory;
     };
-    let Some(_) = enter(rt, turnstile, pass, &Input::Drain) else {
+    let Some(_) = enter(rt, turnstile, pass, Input::Drain) else {
         return RunEnd::NoMemory;
     };
     RunEnd::Left
@@ -392,7 +392,7 @@ where
         → NextInOrder I.told result made (numbers_of I.told past.old.pairs.items) (numbers_of I.told past.new.pairs.items) }
     ensures started { W.started crew.old ≤ W.started crew.new }
 {
-    let Some(_) = enter(rt, turnstile, pass, &Input::Up) else {
+    let Some(_) = enter(rt, turnstile, pass, Input::Up) else {
         past.pairs.push_reserved(pair);
         return give_up(rt, turnstile, pass, RunEnd::NoMemory, twins);
     };

@@ -74,12 +74,12 @@ fn answer<
     turnstile: &Turnstile<T>,
     pass: &mut Pass<T>,
     socket: &mut D,
-    input: &Input,
+    input: Input,
 ) -> Option<Heard>
     requires { table_of pass.old ≡ turnstile.now }
     ensures table { table_of pass.new ≡ table_of pass.old }
-    ensures went { Went (turn_of input.now result ∷ []) (known pass.old) (known pass.new) }
-    ensures hands { Hands (D.told socket.old) (D.told socket.new) (replies (turn_of input.now result ∷ [])) }
+    ensures went { Went (turn_of input result ∷ []) (known pass.old) (known pass.new) }
+    ensures hands { Hands (D.told socket.old) (D.told socket.new) (replies (turn_of input result ∷ [])) }
 {
     let heard = enter(rt, turnstile, pass, input)?;
     send_replies(socket, heard.outputs.as_slice());
@@ -119,13 +119,13 @@ fn take_in<
     turnstile: &Turnstile<T>,
     pass: &mut Pass<T>,
     socket: &mut D,
-    input: &Option<Input>,
+    input: Option<Input>,
     counts: &mut ReadCounts,
 ) -> bool
     requires table { table_of pass.old ≡ turnstile.now }
     requires range { counts.old.lost < 2 ^ 64 }
     ensures table { table_of pass.new ≡ table_of pass.old }
-    ensures reads { (via : Via) (d : Datagram) (before : Socket) → IfSome input.now (λ i. i ≡ input_of via d) → Gave before (D.told socket.old) d
+    ensures reads { (via : Via) (d : Datagram) (before : Socket) → IfSome input (λ i. i ≡ input_of via d) → Gave before (D.told socket.old) d
         → ReadsOnce via (known pass.old) (known pass.new) before (D.told socket.new) counts.old counts.new result }
 {
     counts.row = 0;
@@ -157,7 +157,7 @@ fn pass_time<
         → ReadsOnce via (known pass.old) (known pass.new) before (D.told socket.new) counts.old counts.new result }
 {
     counts.row = 0;
-    match answer(rt, turnstile, pass, socket, &Input::Tick) {
+    match answer(rt, turnstile, pass, socket, Input::Tick) {
         Some(heard) => is_last(&heard),
         None => false,
     }
@@ -220,7 +220,7 @@ fn read_once<
             length,
         } => {
             let input = copied(alloc, via, address, port, &buf[..length]);
-            take_in(rt, turnstile, pass, socket, &input, counts)
+            take_in(rt, turnstile, pass, socket, input, counts)
         }
         Took::Nothing => pass_time(rt, turnstile, pass, socket, counts),
         Took::Failed => count_failure(rt, turnstile, pass, socket, counts),

@@ -19,12 +19,12 @@ pub fn enter<R: Wait, T: Desk<Ask = Input, Answer = Heard, Refusal = NoMemory, B
     rt: &R,
     turnstile: &Turnstile<T>,
     pass: &mut Pass<T>,
-    input: &Input,
+    input: Input,
 ) -> Option<Heard>
     requires { table_of pass.old ≡ turnstile.now }
     ensures table { table_of pass.new ≡ table_of pass.old }
-    ensures went { Went (turn_of input.now result ∷ []) (known pass.old) (known pass.new) }
-    ensures last { SeenLast (turn_of input.now result) (known pass.old) (known pass.new) }
+    ensures went { Went (turn_of input result ∷ []) (known pass.old) (known pass.new) }
+    ensures last { SeenLast (turn_of input result) (known pass.old) (known pass.new) }
 {
     turnstile.visit(rt, pass, input).ok()
 }
@@ -39,7 +39,7 @@ pub fn take_leave<
     ensures left { (tries : List RunTurn) × Went tries (known pass.old) (known pass.new) × AsksLeave result tries }
 {
     for _ in rt.forever() {
-        if let Some(left) = enter(rt, turnstile, pass, &Input::Leave) {
+        if let Some(left) = enter(rt, turnstile, pass, Input::Leave) {
             return left;
         }
         thread::yield_now();

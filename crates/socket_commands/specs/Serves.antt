@@ -10,6 +10,7 @@ use Rattle.wire_devices.specs.Dialling.{Dials}
 use Rattle.wire_devices.specs.Links.{Inlet, Outlet}
 use Rattle.wire_devices.specs.Sockets.{Socket}
 use Rattle.agent_server.specs.declared.trail.Trail.{Trail}
+use Rattle.agent_server.specs.Ran.{IsAny}
 use Rattle.agent_server.specs.Server.{Began, EndsEarly, Served, rank}
 use Rattle.text_commands.specs.SettingsInput.{SettingsTaken}
 use Rattle.peer_runs.specs.Until.{until_of}
@@ -59,7 +60,7 @@ module _ {C D I O : Type 0} (readings : C → Option (List ℕ)) (told : D → S
 -- one from which its time is counted.
 pub record EndsBefore (status : Status) (config : Config) (millis : ℕ) (before : List ℕ) (clock : Option (List ℕ)) (dials dials' : Dials) (twin start : Type 0) : Type 0 where
   pub first : ℕ
-  pub began : Began (with_boot first config) (until_of first millis) (before ++ first ∷ []) clock
+  pub began : Began (with_boot first config) (until_of first millis) (before ++ first ∷ []) clock IsAny
   pub early : EndsEarly status clock (until_of first millis) dials dials' twin start
 
 -- the same, and its settings were read

@@ -98,19 +98,20 @@ pub(crate) fn wait<D: Desk, R: Wait>(
 }
 
 /// The step itself: the desk is taken out of its slot, steps, and is put back.
-pub(crate) fn serve<D: Desk>(
+pub(crate) fn serve<D: Desk, R: Wait>(
+    rt: &R,
     top: &Top<D>,
     seat: &mut Place<D>,
-    ask: &D::Ask,
+    ask: D::Ask,
 ) -> Result<D::Answer, D::Refusal>
     requires table { seat.old.table_id ≡ top.now.table_id }
     requires hand { (desk : D) × (seat.old.me.1 ≡ (0, Some desk) ∷ []) }
     ensures table { seat.new.table_id ≡ seat.old.table_id }
-    ensures refused { IfErr result (λ e. D.refuses ask.now e) }
-    ensures stepped { (desk : D) → seat.old.me.1 ≡ (0, Some desk) ∷ [] → (next : D) × (seat.new.me ≡ (seat.old.me.0, (0, Some next) ∷ [])) × ((base : D.Base) (turns : List (Option (D.Ask × D.Answer))) → D.stands desk base turns → D.stands next base (turns ++ entry_of ask.now result ∷ [])) }
+    ensures refused { IfErr result (λ e. D.refuses ask e) }
+    ensures stepped { (desk : D) → seat.old.me.1 ≡ (0, Some desk) ∷ [] → (next : D) × (seat.new.me ≡ (seat.old.me.0, (0, Some next) ∷ [])) × ((base : D.Base) (turns : List (Option (D.Ask × D.Answer))) → D.stands desk base turns → D.stands next base (turns ++ entry_of ask result ∷ [])) }
 {
     let mut desk = top.exchange(seat, 0, None).unwrap();
-    let outcome = desk.step(ask);
+    let outcome = desk.step(rt, ask);
     match top.exchange(seat, 0, Some(desk)) {
         None => outcome,
         Some(_) => unreachable!(),
@@ -121,14 +122,14 @@ pub(crate) fn serve<D: Desk>(
 pub(crate) fn raise<D: Desk, T: Turned<D::Ask, D::Answer>>(
     top: &Top<D>,
     seat: &mut Place<D>,
-    ask: &D::Ask,
+    ask: &Snapshot<D::Ask>,
     outcome: &Result<D::Answer, D::Refusal>,
 )
     requires table { (seat.old.table_id ≡ top.now.table_id) × (top.now.table_id.words ≡ 2) }
-    requires turn { T.turn ≡ entry_of ask.now outcome.now }
+    requires turn { T.turn ≡ entry_of ask.now.value outcome.now }
     requires serves { (t : ℕ) × (seat.old.me.0.stage ≡ Serves t) × (seat.old.me.0.told ≡ []) × (0 < length seat.old.me.0.known.numbers) }
     requires hand { (desk : D) × (seat.old.me.1 ≡ (0, Some desk) ∷ []) × Stands D.stands seat.old.me.0.known desk (after T.turn seat.old.me.0.known).seen }
-    ensures { (seat.new.table_id ≡ seat.old.table_id) × (seat.new.me ≡ (idle (after (entry_of ask.now outcome.now) seat.old.me.0.known), [])) }
+    ensures { (seat.new.table_id ≡ seat.old.table_id) × (seat.new.me ≡ (idle (after (entry_of ask.now.value outcome.now) seat.old.me.0.known), [])) }
 {
     let _ = ask;
     let _ = outcome;

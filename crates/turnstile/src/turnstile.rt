@@ -65,20 +65,21 @@ impl<D: Desk> Turnstile<D> {
         &self,
         rt: &R,
         pass: &mut Pass<D>,
-        ask: &D::Ask,
+        ask: D::Ask,
     ) -> Result<D::Answer, D::Refusal>
         requires { table_of pass.old ≡ self.now }
         ensures table { table_of pass.new ≡ table_of pass.old }
-        ensures refused { IfErr result (λ e. D.refuses ask.now e) }
-        ensures turn { Visited (entry_of ask.now result) (known pass.old) (known pass.new) }
+        ensures refused { IfErr result (λ e. D.refuses ask e) }
+        ensures turn { Visited (entry_of ask result) (known pass.old) (known pass.new) }
         ensures stood { (base : D.Base) → Carries D.stands (known pass.old) base → (desk : D) × D.stands desk base (plain (known pass.new).seen) }
     {
         let top = &self.table.shared;
         hold_back(rt, top, &self.sleepers);
         let ticket = draw(top, &mut pass.seat);
         wait(rt, top, &mut pass.seat, ticket, &self.sleepers);
-        let outcome = serve(top, &mut pass.seat, ask);
-        raise::<D, Brand>(top, &mut pass.seat, ask, &outcome);
+        let asked = Snapshot::of(&ask);
+        let outcome = serve(rt, top, &mut pass.seat, ask);
+        raise::<D, Brand>(top, &mut pass.seat, &asked, &outcome);
         wake(top, &self.sleepers);
         outcome
     }

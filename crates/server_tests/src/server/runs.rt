@@ -1,11 +1,15 @@
 //! Runs of the server over devices that wait for one another.
 
+ghost use Rattle.std.specs.Prelude.{◌≡◌, IfOk};
+ghost use Rattle.agent_settings.specs.Config.{InLimits};
+
 use super::octets::{CAPABLE, base, datagram, message, settings};
 use super::waiting::{
     Find, Finds, Look, Post, Script, UNTIL, WaitingClock, WaitingDialer, WaitingIn, WaitingOut,
     WaitingSocket, Word,
 };
 use agent_server::{Finish, Trail, World, serve};
+use agent_settings::Config;
 use agent_status::Status;
 use std::alloc::Global;
 use std::collections::VecDeque;
@@ -166,11 +170,23 @@ fn shares(word: &Word) -> Result<(Word, Word, Word, Word), Fail> {
     Ok((clock, auth, acct, dialer))
 }
 
-/// Runs the server over these devices.
-pub(super) fn run<R: Threads + Wait + Copy + Send + 'static>(
+/// All that a run is made of.
+pub(super) struct Stage<R> {
+    pub alloc: Global,
+    pub random: RandomState,
+    pub word: Word,
+    pub config: Config,
+    pub world: World<WaitingClock, WaitingSocket, WaitingDialer, ThreadCrew<R>>,
+}
+
+/// The devices of a run, and its settings.
+pub(super) fn set_up<R: Threads + Wait + Copy + Send + 'static>(
     rt: R,
     play: Play,
-) -> Result<Ran, Fail> {
+) -> Result<Stage<R>, Fail>
+    ensures limits { IfOk result (λ stage. InLimits stage.config) }
+    ensures rows { IfOk result (λ stage. (stage.world.auth.row ≡ 0) × (stage.world.acct.row ≡ 0) × (stage.world.dialer.told.row ≡ 0)) }
+{
     let Play {
         host,
         random,
@@ -183,13 +199,33 @@ pub(super) fn run<R: Threads + Wait + Copy + Send + 'static>(
     let word = Arc::new(alloc, AtomicU64::new(0))?;
     let (for_clock, for_auth, for_acct, for_dialer) = shares(&word)?;
     let config = settings(alloc)?;
-    let world = World {
-        clock: WaitingClock::new(for_clock, last),
-        auth: WaitingSocket::new(host, for_auth, auth),
-        acct: WaitingSocket::new(host, for_acct, acct),
-        dialer: WaitingDialer::new(host, for_dialer, scripts),
-        crew: ThreadCrew::new(alloc, rt, Vec::new(alloc)),
-    };
+    Ok(Stage {
+        alloc,
+        random,
+        word,
+        config,
+        world: World {
+            clock: WaitingClock::new(for_clock, last),
+            auth: WaitingSocket::new(host, for_auth, auth),
+            acct: WaitingSocket::new(host, for_acct, acct),
+            dialer: WaitingDialer::new(host, for_dialer, scripts),
+            crew: ThreadCrew::new(alloc, rt, Vec::new(alloc)),
+        },
+    })
+}
+
+/// Runs the server over these devices.
+pub(super) fn run<R: Threads + Wait + Copy + Send + 'static>(
+    rt: R,
+    play: Play,
+) -> Result<Ran, Fail> {
+    let Stage {
+        alloc,
+        random,
+        word,
+        config,
+        world,
+    } = set_up(rt, play)?;
     let Finish {
         status,
         world,

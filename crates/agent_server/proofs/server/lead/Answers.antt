@@ -3,6 +3,7 @@ use Rattle.std.specs.Arc.{arc_value}
 use Rattle.turnstile.specs.Passes.{known}
 use Rattle.agent_server.proofs.BackLemmas.{back-at, reader-worker}
 use Rattle.agent_server.proofs.ConcludingLemmas.{all-done, kept-links, order-at, twins-at}
+use Rattle.agent_server.proofs.StartingLemmas.{carries-same}
 use Rattle.agent_server.proofs.server.lead.Goals as goal
 
 pub socket_ran-auth-requires-clause-worker : goal.socket_ran-auth-requires-clause-worker
@@ -39,3 +40,7 @@ returns-clause-ports g c = twins-at g.D.Datagrams.told c.conclude.result.trail c
 pub returns-clause-order : goal.returns-clause-order
 returns-clause-order g c = λ made ordered is.
     order-at g.L.In.LinkIn.told c.conclude.result.trail c.serve_links-end.new.past.pairs.items made c.conclude.ensures.links (c.serve_links-end.ensures.order made ordered is)
+
+pub returns-clause-sent : goal.returns-clause-sent
+returns-clause-sent g c = λ base carries.
+    c.conclude.ensures.sent base (carries-same g.C.Clock.readings (known c.args.pass) (known c.serve_links-end.new.pass) base c.serve_links-end.ensures.ends.first carries)

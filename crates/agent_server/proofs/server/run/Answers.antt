@@ -8,8 +8,8 @@ use Rattle.agent_server.proofs.server.run.Goals as goal
 
 pub returns-in-Err-clause-early : goal.returns-in-Err-clause-early
 returns-in-Err-clause-early g c = λ base carries.
-    ends-early g.C.Clock.readings c.clock_of.result base (known c.first_link.new.pass).seen c.in-Err.status _ _ _ _
-    (c.clock_of.ensures base (carries-same g.C.Clock.readings (known c.args.stand.pass) (known c.first_link.new.pass) base c.first_link.ensures.same.0 carries))
+    ends-early g.C.Clock.readings c.tools_of.result base (known c.first_link.new.pass).seen c.in-Err.status _ _ _ _
+    (c.tools_of.ensures base (carries-same g.C.Clock.readings (known c.args.stand.pass) (known c.first_link.new.pass) base c.first_link.ensures.same.0 carries))
     c.in-Err.ensures.failed
 
 pub start_workers-requires-clause-table : goal.start_workers-requires-clause-table
@@ -56,7 +56,7 @@ returns-in-Ok-start_workers-clause-served g c = λ base carries.
     served-from g.C.Clock.readings told g.L.In.LinkIn.told g.L.Out.LinkOut.told base.config base.until base.before
     (told c.args.auth) (told c.args.acct) (told c.lead.result.auth) (told c.lead.result.acct)
     (g.L.Dialer.told c.args.dialer.now) (g.L.Dialer.told c.lead.new.dialer) (g.W.Crew.faults c.args.crew.now) (g.W.Crew.faults c.start_workers.new.crew)
-    (g.W.Crew.faults c.lead.new.crew) c.lead.result.clock c.lead.result.trail c.lead.result.status started.unrefused
+    (g.W.Crew.faults c.lead.new.crew) c.lead.result.tools.clock c.lead.result.trail c.lead.result.status started.unrefused
     (c.lead.ensures.served base (g.L.Dialer.told c.args.dialer.now) (told c.args.auth) (told c.args.acct)
     (carries-same g.C.Clock.readings (known c.args.stand.pass) l base (started.same.1 ∙ c.first_link.ensures.same.0) carries)
     (rose-same k l (g.L.Dialer.told c.args.dialer.now) (g.L.Dialer.told c.first_link.new.dialer) started.same.0 opened.dialled)
@@ -66,8 +66,8 @@ returns-in-Ok-start_workers-clause-served g c = λ base carries.
 
 pub returns-in-Err-clause-began : goal.returns-in-Err-clause-began
 returns-in-Err-clause-began g c = λ base carries.
-    read-began g.C.Clock.readings c.clock_of.result base (known c.first_link.new.pass).seen
-    (c.clock_of.ensures base (carries-same g.C.Clock.readings (known c.args.stand.pass) (known c.first_link.new.pass) base c.first_link.ensures.same.0 carries))
+    read-began g.C.Clock.readings c.tools_of.result base (known c.first_link.new.pass).seen
+    (c.tools_of.ensures base (carries-same g.C.Clock.readings (known c.args.stand.pass) (known c.first_link.new.pass) base c.first_link.ensures.same.0 carries))
 
 pub returns-in-Ok-start_workers-clause-links : goal.returns-in-Ok-start_workers-clause-links
 returns-in-Ok-start_workers-clause-links g c =
@@ -99,3 +99,8 @@ returns-in-Ok-start_workers-clause-order g c =
     (first-in-order g.L.In.LinkIn.told (arc_value c.args.stand.turnstile) 3 (known c.start_workers.new.pass) _ _ c.in-Ok-start_workers.team.link c.args.stand.past.pairs.items _
     c.in-Ok-start_workers.ensures.ok.2 none c.in-Ok.ensures.numbered)
     (omega (arith, c.in-Ok.ensures.made, ap length none))
+
+pub returns-in-Ok-start_workers-clause-sent : goal.returns-in-Ok-start_workers-clause-sent
+returns-in-Ok-start_workers-clause-sent g c = λ base carries.
+    c.lead.ensures.sent base
+    (carries-same g.C.Clock.readings (known c.args.stand.pass) (known c.start_workers.new.pass) base (c.in-Ok-start_workers.ensures.same.1 ∙ c.first_link.ensures.same.0) carries)

@@ -7,10 +7,10 @@ use Rattle.server_workers.proofs.turns.enter.Goals as goal
 
 pub returns-clause-went : goal.returns-clause-went
 returns-clause-went g c =
-    subst (λ heard. Went (turn_of c.args.input.now heard ∷ []) (known c.args.pass.now) (known c.visit.new.pass)) (sym c.ok.ensures.value)
-    (went-by c.args.input.now c.visit.result (known c.args.pass.now) (known c.visit.new.pass) c.visit.ensures.turn)
+    subst (λ heard. Went (turn_of c.args.input heard ∷ []) (known c.args.pass.now) (known c.visit.new.pass)) (sym c.ok.ensures.value)
+    (went-by c.args.input c.visit.result (known c.args.pass.now) (known c.visit.new.pass) c.visit.ensures.turn)
 
 pub returns-clause-last : goal.returns-clause-last
 returns-clause-last g c =
-    subst (λ heard. SeenLast (turn_of c.args.input.now heard) (known c.args.pass.now) (known c.visit.new.pass)) (sym c.ok.ensures.value)
-    (last-by c.args.input.now c.visit.result (known c.args.pass.now) (known c.visit.new.pass) c.visit.ensures.turn)
+    subst (λ heard. SeenLast (turn_of c.args.input heard) (known c.args.pass.now) (known c.visit.new.pass)) (sym c.ok.ensures.value)
+    (last-by c.args.input c.visit.result (known c.args.pass.now) (known c.visit.new.pass) c.visit.ensures.turn)

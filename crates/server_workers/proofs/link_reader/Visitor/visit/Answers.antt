@@ -16,14 +16,14 @@ returns-in-Some-clause-visits g c = record {
   last = c.is_last.ensures;
 }
 
-pub returns-else-is_framed-clause-visits : goal.returns-else-is_framed-clause-visits
-returns-else-is_framed-clause-visits g c = record {
+pub returns-else-framed-clause-visits : goal.returns-else-framed-clause-visits
+returns-else-framed-clause-visits g c = record {
   heard = None;
   went = c.in-None.ensures.went;
   auth = Adds-none (g.D.Datagrams.told c.args.self.now.auth_twin).handed;
   acct = Adds-none (g.D.Datagrams.told c.args.self.now.acct_twin).handed;
   ports = (refl, refl);
-  lost = rw (sym c.is_framed.ensures ∙ c.if-is_framed.false) refl;
+  lost = rw (sym c.is_framed-framed.ensures ∙ c.if-framed.false) refl;
   again = refl;
   last = refl;
 }

@@ -1,0 +1,91 @@
+//! What writes the lines of a record.
+
+ghost use Rattle.std.specs.Prelude.{◌≡◌, not};
+ghost use Rattle.printed_lines.specs.EventText.{event_line};
+ghost use Rattle.record_text.specs.Lines.{WroteLines, text_of};
+
+use printed_lines::print_event;
+use run_record::{Entry, EntryWriter};
+use std::alloc::Global;
+use std::collections::LinkedList;
+use std::sync::Wait;
+use std::time::Duration;
+use std::{rt, thread};
+use wire_core::{Put, Sink};
+
+/// How long it pauses where no entry is there, in milliseconds.
+const REST: u64 = 20;
+
+/// Writes each entry of a record as a line of a transcript, and nothing once a write failed.
+#[derive(Drop)]
+pub struct RecordText<R, K> {
+    rt: R,
+    alloc: Global,
+    pub sink: K,
+    pub faults: u64,
+}
+
+impl<R, K> RecordText<R, K> {
+    /// What writes to this sink, behind what stands there.
+    pub fn new(rt: R, alloc: Global, sink: K) -> RecordText<R, K>
+        ensures sink { result.sink ≡ sink }
+        ensures faults { result.faults ≡ 0 }
+    {
+        RecordText {
+            rt,
+            alloc,
+            sink,
+            faults: 0,
+        }
+    }
+}
+
+/// Writes the line of an entry. It says whether it was written whole.
+fn write_line<K: Sink>(alloc: Global, sink: &mut K, entry: &Entry) -> bool
+    ensures { WroteLines (not result) (K.written sink.old) (K.written sink.new) (event_line entry.now.moment entry.now.input) }
+{
+    match print_event(alloc, entry.moment, &entry.input) {
+        Ok(line) => matches!(sink.write(line.as_slice()), Put::Done),
+        Err(_) => false,
+    }
+}
+
+/// Writes the lines of these entries, in order, until one can't be written whole. It says whether all were.
+fn write_lines<K: Sink>(alloc: Global, sink: &mut K, entries: &[Entry]) -> bool
+    ensures { WroteLines (not result) (K.written sink.old) (K.written sink.new) (text_of entries.now) }
+{
+    for entry in entries {
+        if !write_line(alloc, sink, entry) {
+            return false;
+        }
+    }
+    true
+}
+
+impl<R: Wait + rt::Clock + Send + Drop + 'static, K: Sink + Send + Drop + 'static> EntryWriter
+    for RecordText<R, K> {
+    ghost use Rattle.record_text.specs.Lines.{StandsWritten};
+
+    type Base = Option<LinkedList<u8>>;
+
+    ghost stands = { StandsWritten K.written };
+
+    ghost faults = { λ w. w.faults };
+
+    fn write(&mut self, entries: &[Entry]) -> Put {
+        if self.faults > 0 {
+            self.faults = self.faults.saturating_add(1);
+            return Put::Failed;
+        }
+        if write_lines(self.alloc, &mut self.sink, entries) {
+            Put::Done
+        } else {
+            self.faults = 1;
+            Put::Failed
+        }
+    }
+
+    fn rest(&mut self) {
+        thread::sleep(&self.rt, Duration::from_millis(REST));
+    }
+}
