@@ -9,6 +9,8 @@ mod printers;
 #[cfg(test)]
 mod readers;
 #[cfg(test)]
+mod records;
+#[cfg(test)]
 mod settings;
 #[cfg(test)]
 mod statuses;
