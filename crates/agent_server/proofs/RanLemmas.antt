@@ -27,11 +27,11 @@ none-map (Some x) P Q more has = tt
 
 module _ {C D L W I O : Type 0} (readings : C → Option (List ℕ)) (told : D → Socket) (hears : I → Inlet) (speaks : O → Outlet)
     (dials : L → Dials) (made : L → ℕ) (faults started : W → ℕ) where
-  pub ran-with : (config : Config) (until : ℕ) (world world' : World C D L W) (status : Status) (trail : Option (Trail C D I O)) (has has' : List Event → Type 0)
+  pub ran-with : (begun : List ℕ → Type 0) (config : Config) (until : ℕ) (world world' : World C D L W) (status : Status) (trail : Option (Trail C D I O)) (has has' : List Event → Type 0)
       → ((events : List Event) → has events → has' events)
-      → RanFrom readings told hears speaks dials made faults started config until world world' status trail has
-      → RanFrom readings told hears speaks dials made faults started config until world world' status trail has'
-  ran-with config until world world' status trail has has' more ran = record {
+      → RanFrom readings told hears speaks dials made faults started begun config until world world' status trail has
+      → RanFrom readings told hears speaks dials made faults started begun config until world world' status trail has'
+  ran-with begun config until world world' status trail has has' more ran = record {
     workers = ran.workers;
     links = ran.links;
     ports = ran.ports;
@@ -46,7 +46,7 @@ module _ {C D L W I O : Type 0} (readings : C → Option (List ℕ)) (told : D �
 -- ---- a run that is recorded
 
 -- what a clock tells before the first turn
-readings-before : (told : Option (List ℕ)) → (before : List ℕ) × HasRead told before []
+pub readings-before : (told : Option (List ℕ)) → (before : List ℕ) × HasRead told before []
 readings-before None = ([], λ all is. cc)
 readings-before (Some xs) = (xs, λ all is. let same : xs ≡ all = cc in ([], sym same ∙ sym (append-nil xs), tt))
 
@@ -58,10 +58,9 @@ module _ {C D L W I O : Type 0} (readings : C → Option (List ℕ)) (told : D �
   events-of config until before now (Some t) has began recorded = (_, recorded)
 
   -- a run has entries, whatever they are
-  pub some-events : (config : Config) (until : ℕ) (world world' : World C D L W) (status : Status) (trail : Option (Trail C D I O)) (has : List Event → Type 0)
-      → RanFrom readings told hears speaks dials made faults started config until world world' status trail has → (events : List Event) × has events
-  some-events config until world world' status trail has ran =
-      let (before, read) = readings-before (readings world.clock) in
+  pub some-events : (begun : List ℕ → Type 0) (before : List ℕ) → begun before → (config : Config) (until : ℕ) (world world' : World C D L W) (status : Status) (trail : Option (Trail C D I O)) (has : List Event → Type 0)
+      → RanFrom readings told hears speaks dials made faults started begun config until world world' status trail has → (events : List Event) × has events
+  some-events begun before read config until world world' status trail has ran =
       events-of config until before (readings world'.clock) trail has (ran.began before read) (ran.recorded before read)
 
 -- a sender is there at the end, and of the same queue

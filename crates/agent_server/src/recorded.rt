@@ -3,7 +3,7 @@
 ghost use Rattle.std.specs.Prelude.{◌≡◌, ◌⊎◌, [], None, if◌then◌else◌};
 ghost use Rattle.agent_settings.specs.Config.{InLimits};
 ghost use Rattle.agent_status.specs.declared.status.Status.TheVariants.{NoThread, OutOfMemory};
-ghost use Rattle.agent_server.specs.Ran.{RanRecorded, Unstarted, status_recorded};
+ghost use Rattle.agent_server.specs.Ran.{HasToldOnly, RanRecorded, Unstarted, status_recorded};
 
 use crate::Worker;
 use crate::server::{Finish, World, serve_sending};
@@ -85,7 +85,7 @@ where
     ensures home { result.finish.home ≡ None }
     ensures ran { (base : E.Base) → E.stands writer base []
         → (Unstarted world result.finish.world result.finish.status result.finish.trail (V.faults recorders.old) (V.faults recorders.new) × E.stands result.record.writer base [])
-        ⊎ RanRecorded E.stands C.readings D.told L.In.told L.Out.told L.told L.made W.faults W.started config until world result.finish.world result.finish.status result.finish.trail
+        ⊎ RanRecorded E.stands C.readings D.told L.In.told L.Out.told L.told L.made W.faults W.started (HasToldOnly (C.readings world.clock)) config until world result.finish.world result.finish.status result.finish.trail
         base result.record.writer result.record.closed }
     ensures sound { result.record.closed ≡ None → E.faults result.record.writer ≡ E.faults writer }
 {

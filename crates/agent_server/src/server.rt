@@ -15,7 +15,7 @@ ghost use Rattle.turnstile.specs.Turns.{of, plain};
 ghost use Rattle.agent_server.specs.Desks.{HasSent, StandsBy};
 ghost use Rattle.server_workers.specs.Entries.{ticks};
 ghost use Rattle.server_workers.specs.Running.{Keeps, RoseBy, StartedAs, counted, ports_in, ports_of, InOrder, number_in, numbers_of};
-ghost use Rattle.agent_server.specs.Ran.{IsAny, RanFrom};
+ghost use Rattle.agent_server.specs.Ran.{HasToldOnly, IsAny, RanFrom};
 ghost use Rattle.agent_server.specs.Runs.{entries_recorded};
 ghost use Rattle.agent_server.specs.Server.{EndsEarly, HasTrail, Served, status_given, twins_of};
 ghost use Rattle.agent_server.specs.Starting.{AllDone, BeganFrom, IsAt, IsReader, IsReady, StartsFor};
@@ -300,7 +300,7 @@ where
     requires limits { InLimits config }
     requires rows { ((D.told world.auth).row ≡ 0) × ((D.told world.acct).row ≡ 0) × ((L.told world.dialer).row ≡ 0) }
     ensures home { result.0.home ≡ None }
-    ensures ran { RanFrom C.readings D.told L.In.told L.Out.told L.told L.made W.faults W.started config until world result.0.world result.0.status result.0.trail
+    ensures ran { RanFrom C.readings D.told L.In.told L.Out.told L.told L.made W.faults W.started (HasToldOnly (C.readings world.clock)) config until world result.0.world result.0.status result.0.trail
         (HasSent sender result.1) }
 {
     let World {
@@ -366,7 +366,7 @@ where
     requires limits { InLimits config }
     requires rows { ((D.told world.auth).row ≡ 0) × ((D.told world.acct).row ≡ 0) × ((L.told world.dialer).row ≡ 0) }
     ensures home { result.home ≡ None }
-    ensures ran { RanFrom C.readings D.told L.In.told L.Out.told L.told L.made W.faults W.started config until world result.world result.status result.trail IsAny }
+    ensures ran { RanFrom C.readings D.told L.In.told L.Out.told L.told L.made W.faults W.started (HasToldOnly (C.readings world.clock)) config until world result.world result.status result.trail IsAny }
 {
     let (finish, _) = serve_sending(rt, alloc, random, config, world, until, None);
     finish

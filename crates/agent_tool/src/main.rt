@@ -1,5 +1,6 @@
-//! The program: `agent serve` serves RADIUS clients by a Diameter home server, and the other commands go from text to text,
-//! or are the peers of its tests. Where the status isn't 0, its name stands on stderr.
+//! The program: `agent serve` serves RADIUS clients by a Diameter home server, `agent record` writes the transcript of that
+//! besides, and the other commands go from text to text, or are the peers of its tests. Where the status isn't 0, its name
+//! stands on stderr.
 #![tactic(auto)]
 
 ghost use Rattle.std.specs.Prelude.{◌≡◌, IfOk};
@@ -11,7 +12,9 @@ use agent_server::{Finish, Pair, Trail, World};
 use agent_status::Status;
 pub use command_line::{Places, places};
 use command_line::{Command, TextCommand, command_of};
+use record_text::RecordText;
 use replay_command::wanted_in_transcript;
+use socket_commands::{CommandEnd, Tape};
 use std::alloc::Global;
 use std::hash::RandomState;
 use std::net::{Ipv4Addr, Net, TcpListener, TcpStream};
@@ -34,6 +37,7 @@ usage: agent replay < TRANSCRIPT
        agent generate LOGINS SEED
        agent measure LOGINS SEED
        agent serve ADDRESS AUTH ACCT PEER PEERPORT MILLIS < SETTINGS
+       agent record ADDRESS AUTH ACCT PEER PEERPORT MILLIS < SETTINGS
        agent home ADDRESS PORT MILLIS < USERS
        agent nas ADDRESS PORT MILLIS < PACKETS
        agent --help
@@ -65,6 +69,10 @@ as it is made, and prints its end line alone.
 
 serve listens at ADDRESS for logins at the port AUTH and for accounting at ACCT, links with the home server at PEER and
 PEERPORT, and ends after MILLIS milliseconds. Then it prints how many inputs it took and how many it lost.
+
+record serves as serve does, and prints the transcript of its run while it runs: replay of it prints all that went out.
+How many inputs it took and how many it lost stands on the standard error. Where its output can't be written, or isn't
+read for too long, the transcript ends there, and the service goes on.
 
 home is a home server for tests: it listens for one link, knows users by lines 'NAME HEX' of a name and a password, and
 prints the command of each message that it answers. nas is a client for tests: it sends each packet, a line of HEX, until
@@ -139,16 +147,29 @@ struct Trouble {
     why: io::ErrorKind,
 }
 
-/// How the program ends, and what was the trouble with an address where that is why.
+/// What a run of the server took.
+#[derive(Clone, Copy)]
+struct Taken {
+    entries: u64,
+    lost: u64,
+}
+
+/// How the program ends, and what is told of that beside.
 struct Outcome {
     status: Status,
+    /// What was the trouble with an address, where that is why.
     trouble: Option<Trouble>,
+    taken: Option<Taken>,
+    /// The moment of the first entry that a record lacks.
+    closed: Option<u64>,
 }
 
 fn ended(status: Status) -> Outcome {
     Outcome {
         status,
         trouble: None,
+        taken: None,
+        closed: None,
     }
 }
 
@@ -162,12 +183,38 @@ fn unopened(status: Status, address: u32, port: u16, error: io::Error) -> Outcom
             port,
             why: error.kind(),
         }),
+        taken: None,
+        closed: None,
+    }
+}
+
+/// Says on stderr what a recorded run took, and where its record ends before it.
+fn tell_record(rt: &HostRuntime, taken: Option<Taken>, closed: Option<u64>) {
+    if let Some(Taken { entries, lost }) = taken {
+        let _ = eprintln!(rt; "served {entries} {lost}");
+    }
+    if let Some(moment) = closed {
+        let _ = eprintln!(rt; "agent: the record ends before the moment {moment}");
     }
 }
 
 /// Says on stderr how a run of the command ended that wasn't done, and gives the status to exit with.
 fn end(rt: &HostRuntime, command: Option<Command>, ended: Outcome) -> ExitCode {
-    let Outcome { status, trouble } = ended;
+    let Outcome {
+        status,
+        trouble,
+        taken,
+        closed,
+    } = ended;
+    if let Some(
+        Command::Run {
+            places: Places::Record { .. },
+            ..
+        },
+    ) = command
+    {
+        tell_record(rt, taken, closed);
+    }
     let code = ExitCode::from(status.number());
     if let Some(
         Trouble {
@@ -202,38 +249,44 @@ fn tell(rt: &HostRuntime, text: &str, more: &str) -> ExitCode {
     }
 }
 
-/// Runs the command that these words name, over these sockets and this dialer.
-fn run<R, S, K, L>(
+/// The outside of a run, by these sockets and this dialer.
+fn world_of<R, L>(
     rt: R,
     alloc: Global,
-    random: RandomState,
-    words: &[String],
-    input: &mut S,
-    output: &mut K,
     auth: UdpDatagrams,
     acct: UdpDatagrams,
     dialer: L,
-) -> Finish<SystemClock<R>, UdpDatagrams, L, ThreadCrew<R>>
+) -> World<SystemClock<R>, UdpDatagrams, L, ThreadCrew<R>>
 where
-    R: Threads + Wait + rt::Clock + Copy + Drop + Send + 'static,
-    S: Source,
-    K: Sink,
-    L: Dialer<In = TcpIn, Out = TcpOut<R>>,
-    requires { (auth.row ≡ 0) × (acct.row ≡ 0) × ((L.told dialer).row ≡ 0) }
+    R: rt::Clock + Copy,
+    ensures { (result.auth ≡ auth) × (result.acct ≡ acct) × (result.dialer ≡ dialer) }
 {
-    let world = World {
+    World {
         clock: SystemClock::new(rt),
         auth,
         acct,
         dialer,
         crew: ThreadCrew::new(alloc, rt, Vec::new(alloc)),
-    };
-    agent(&rt, alloc, random, words, input, output, world)
+    }
+}
+
+/// What writes the record of a run to this sink.
+fn tape_of<R: Copy, T>(rt: R, alloc: Global, sink: T) -> Tape<R, T, ThreadCrew<R>>
+    ensures { result.writer.faults ≡ 0 }
+{
+    Tape {
+        writer: RecordText::new(rt, alloc, sink),
+        crew: ThreadCrew::new(alloc, rt, Vec::new(alloc)),
+    }
 }
 
 /// Looks at the last link until the home server has let it go, for a second at most, so that what the agent said last is
-/// read before the link is gone.
-fn take_leave<C: Clock + Drop, R: Drop>(trail: Trail<C, UdpDatagrams, TcpIn, TcpOut<R>>) {
+/// read before the link is gone. It gives what the run took.
+fn take_leave<C: Clock + Drop, R: Drop>(trail: Trail<C, UdpDatagrams, TcpIn, TcpOut<R>>) -> Taken {
+    let taken = Taken {
+        entries: trail.entries,
+        lost: trail.lost,
+    };
     let mut pairs = trail.links.into_vec();
     let Some(
         Pair {
@@ -242,15 +295,16 @@ fn take_leave<C: Clock + Drop, R: Drop>(trail: Trail<C, UdpDatagrams, TcpIn, Tcp
         },
     ) = pairs.pop()
     else {
-        return;
+        return taken;
     };
     let mut buf = [0; 4096];
     for _ in 0..10 {
         match link_in.receive(&mut buf) {
-            LinkGot::Ended | LinkGot::Failed => return,
+            LinkGot::Ended | LinkGot::Failed => return taken,
             LinkGot::Bytes(_) | LinkGot::Nothing => {}
         }
     }
+    taken
 }
 
 /// A socket at this address and port, or how a run ends without it.
@@ -277,13 +331,14 @@ fn accepter_at<R: Net<Listener = TcpListener, Stream = TcpStream> + Copy>(
 }
 
 /// Serves by these sockets and the home server at this address. Whoever looks at one of them wakes the link's writer before.
-fn serve<R, S, K>(
+fn serve<R, S, K, T>(
     rt: R,
     alloc: Global,
     random: RandomState,
     words: &[String],
     input: &mut S,
     output: &mut K,
+    record: T,
     sockets: (UdpDatagrams, UdpDatagrams),
     peer: u32,
     port: u16,
@@ -299,6 +354,7 @@ where
         + 'static,
     S: Source,
     K: Sink,
+    T: Sink + Send + Drop + 'static,
     requires { (sockets.0.row ≡ 0) × (sockets.1.row ≡ 0) }
 {
     let Ok(waker) = Waker::new(alloc) else {
@@ -306,15 +362,20 @@ where
     };
     let (auth, acct) = (sockets.0.waking(&waker), sockets.1.waking(&waker));
     let dialer = TcpDialer::new(rt, peer, port).woken_by(&waker);
+    let world = world_of(rt, alloc, auth, acct, dialer);
+    let tape = tape_of(rt, alloc, record);
+    let CommandEnd {
+        finish,
+        tape: _,
+        closed,
+    } = agent(&rt, alloc, random, words, input, output, world, tape);
     let Finish {
         status,
         world,
         trail,
         home: _,
-    } = run(rt, alloc, random, words, input, output, auth, acct, dialer);
-    if let Some(trail) = trail {
-        take_leave(trail);
-    }
+    } = finish;
+    let taken = trail.map(take_leave);
     let World {
         clock: _,
         auth: _,
@@ -334,17 +395,20 @@ where
             port,
             why,
         }),
+        taken,
+        closed,
     }
 }
 
 /// Runs a command that wants no socket but this one.
-fn run_with<R, S, K, L>(
+fn run_with<R, S, K, T, L>(
     rt: R,
     alloc: Global,
     random: RandomState,
     words: &[String],
     input: &mut S,
     output: &mut K,
+    record: T,
     socket: UdpDatagrams,
     dialer: L,
 ) -> Outcome
@@ -352,25 +416,23 @@ where
     R: Threads + Wait + rt::Clock + Copy + Drop + Send + 'static,
     S: Source,
     K: Sink,
+    T: Sink + Send + Drop + 'static,
     L: Dialer<In = TcpIn, Out = TcpOut<R>> + Drop,
     requires { (socket.row ≡ 0) × ((L.told dialer).row ≡ 0) }
 {
+    let world = world_of(rt, alloc, socket, UdpDatagrams::closed(), dialer);
+    let tape = tape_of(rt, alloc, record);
+    let CommandEnd {
+        finish,
+        tape: _,
+        closed: _,
+    } = agent(&rt, alloc, random, words, input, output, world, tape);
     let Finish {
         status,
         world,
         trail: _,
         home: _,
-    } = run(
-        rt,
-        alloc,
-        random,
-        words,
-        input,
-        output,
-        socket,
-        UdpDatagrams::closed(),
-        dialer,
-    );
+    } = finish;
     let World {
         clock: _,
         auth: _,
@@ -382,13 +444,14 @@ where
 }
 
 /// Opens the sockets that the words want, and runs their command.
-fn run_words<R, S, K>(
+fn run_words<R, S, K, T>(
     rt: R,
     alloc: Global,
     random: RandomState,
     words: &[String],
     input: &mut S,
     output: &mut K,
+    record: T,
 ) -> Result<Outcome, Outcome>
 where
     R: Net<Listener = TcpListener, Stream = TcpStream>
@@ -401,10 +464,18 @@ where
         + 'static,
     S: Source,
     K: Sink,
+    T: Sink + Send + Drop + 'static,
 {
     match places(words) {
         Some(
             Places::Serve {
+                address,
+                auth,
+                acct,
+                peer,
+                port,
+            }
+            | Places::Record {
                 address,
                 auth,
                 acct,
@@ -416,22 +487,30 @@ where
                 socket_at(&rt, address, auth)?,
                 socket_at(&rt, address, acct)?,
             );
-            Ok(serve(rt, alloc, random, words, input, output, sockets, peer, port))
+            Ok(serve(
+                rt, alloc, random, words, input, output, record, sockets, peer, port,
+            ))
         }
         Some(Places::Home { address, port }) => {
             let accepter = accepter_at(rt, address, port)?;
             let none = UdpDatagrams::closed();
-            Ok(run_with(rt, alloc, random, words, input, output, none, accepter))
+            Ok(run_with(
+                rt, alloc, random, words, input, output, record, none, accepter,
+            ))
         }
         // The system chooses where the packets of the client come from.
         Some(Places::Nas { .. }) => {
             let socket = socket_at(&rt, 0, 0)?;
             let none = TcpDialer::new(rt, 0, 0);
-            Ok(run_with(rt, alloc, random, words, input, output, socket, none))
+            Ok(run_with(
+                rt, alloc, random, words, input, output, record, socket, none,
+            ))
         }
         None => {
             let (socket, dialer) = (UdpDatagrams::closed(), TcpDialer::new(rt, 0, 0));
-            Ok(run_with(rt, alloc, random, words, input, output, socket, dialer))
+            Ok(run_with(
+                rt, alloc, random, words, input, output, record, socket, dialer,
+            ))
         }
     }
 }
@@ -454,8 +533,17 @@ fn main(rt: HostRuntime) -> ExitCode {
     };
     let mut input = ReaderSource::new(rt.reader());
     let mut output = WriterSink::new(io::writer(&rt));
+    let record = WriterSink::new(rt.stdout());
     let words = words.as_slice();
-    match run_words(rt, rt.alloc(), random, words, &mut input, &mut output) {
+    match run_words(
+        rt,
+        rt.alloc(),
+        random,
+        words,
+        &mut input,
+        &mut output,
+        record,
+    ) {
         Ok(ended) => end(&rt, command_of(words), ended),
         Err(ended) => end(&rt, command_of(words), ended),
     }

@@ -1,10 +1,11 @@
 -- The words of commands (profile).
-use Rattle.std.specs.Prelude.{ℕ, ◌^◌, ◌≤◌, ◌==◌, List, [], ◌∷◌, Option, Some, None, String, string_bytes, bytes_eq, codes, option_map, if◌then◌else◌}
+use Rattle.std.specs.Prelude.{ℕ, ◌^◌, ◌≤◌, ◌==◌, Bool, true, false, List, [], ◌∷◌, Option, Some, None, String, string_bytes, bytes_eq, codes, option_map, if◌then◌else◌}
 use Rattle.std.specs.declared.alloc.Global.{Global}
 use Rattle.address_text.specs.Address.{address_in}
 use Rattle.text_lines.specs.Words.{◌>>=◌, number_word}
 use Rattle.command_line.specs.declared.command.Places.{Places}
 use Rattle.command_line.specs.declared.command.Places.TheVariants as places
+use Rattle.command_line.specs.declared.command.Places.TheVariants.{Record}
 use Rattle.command_line.specs.declared.command.TextCommand.{TextCommand}
 use Rattle.command_line.specs.declared.command.TextCommand.TheVariants.{Replay, Dynamic, Reverse, Check, Show, Generate, Measure}
 use Rattle.command_line.specs.declared.command.Command.{Command}
@@ -62,24 +63,27 @@ peer_command word address port millis = do
   millis ← millis_word millis
   peer_at word address port millis
 
-abbrev pub serve_at : List ℕ → List ℕ → List ℕ → List ℕ → List ℕ → List ℕ → Option Command
-serve_at address auth acct peer port millis = do
+abbrev pub server_at : List ℕ → ℕ → ℕ → ℕ → ℕ → ℕ → Option Places
+server_at word address auth acct peer port =
+    if bytes_eq word (codes "serve") then Some (places.Serve address auth acct peer port)
+    else if bytes_eq word (codes "record") then Some (places.Record address auth acct peer port)
+    else None
+
+abbrev pub server_command : List ℕ → List ℕ → List ℕ → List ℕ → List ℕ → List ℕ → List ℕ → Option Command
+server_command word address auth acct peer port millis = do
   address ← address_in address
   auth ← port_word auth
   acct ← port_word acct
   peer ← address_in peer
   port ← port_word port
   millis ← millis_word millis
-  Some (Run (places.Serve address auth acct peer port) millis)
-
-abbrev pub serve_command : List ℕ → List ℕ → List ℕ → List ℕ → List ℕ → List ℕ → List ℕ → Option Command
-serve_command word address auth acct peer port millis =
-    if bytes_eq word (codes "serve") then serve_at address auth acct peer port millis else None
+  at ← server_at word address auth acct peer port
+  Some (Run at millis)
 
 -- ---- all words
 
 -- replay, dynamic, reverse, check, show, generate COUNT SEED, measure COUNT SEED, home ADDRESS PORT MILLIS,
--- nas ADDRESS PORT MILLIS, or serve ADDRESS AUTH ACCT PEER PEERPORT MILLIS
+-- nas ADDRESS PORT MILLIS, or serve or record ADDRESS AUTH ACCT PEER PEERPORT MILLIS
 abbrev pub command_of : List (String Global) → Option Command
 command_of (word ∷ []) = option_map (λ c. Text c) (command_named (string_bytes word))
 command_of (word ∷ count ∷ seed ∷ []) =
@@ -87,7 +91,7 @@ command_of (word ∷ count ∷ seed ∷ []) =
 command_of (word ∷ address ∷ port ∷ millis ∷ []) =
     peer_command (string_bytes word) (string_bytes address) (string_bytes port) (string_bytes millis)
 command_of (word ∷ address ∷ auth ∷ acct ∷ peer ∷ port ∷ millis ∷ []) =
-    serve_command (string_bytes word) (string_bytes address) (string_bytes auth) (string_bytes acct) (string_bytes peer) (string_bytes port) (string_bytes millis)
+    server_command (string_bytes word) (string_bytes address) (string_bytes auth) (string_bytes acct) (string_bytes peer) (string_bytes port) (string_bytes millis)
 command_of words = None
 
 -- the places of the sockets that a command wants
@@ -95,6 +99,11 @@ abbrev pub places_of : Option Command → Option Places
 places_of None = None
 places_of (Some (Text command)) = None
 places_of (Some (Run at millis)) = Some at
+
+-- whether a command records a run
+abbrev pub is_recorded : Option Command → Bool
+is_recorded (Some (Run (Record address auth acct peer port) millis)) = true
+is_recorded command = false
 
 -- ---- what a command asks for
 

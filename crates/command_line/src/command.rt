@@ -1,9 +1,9 @@
 //! The commands that the words of the command line name.
 
-ghost use Rattle.std.specs.Prelude.{◌≡◌, IfSome, string_bytes};
+ghost use Rattle.std.specs.Prelude.{◌≡◌, IfSome};
 ghost use Rattle.text_lines.specs.Words.{number_word};
 ghost use Rattle.command_line.specs.declared.command.Command.{Command};
-ghost use Rattle.command_line.specs.Words.{IsSized, IsSizedCommand, command_named as named_by, command_of as command_of_words, command_with as made_by, count_word, millis_word, peer_at as peer_by, peer_command as peer_by_words, port_word, serve_command as serve_by_words, sized_command as sized_by};
+ghost use Rattle.command_line.specs.Words.{IsSized, IsSizedCommand, command_named as named_by, command_of as command_of_words, command_with as made_by, count_word, millis_word, peer_at as peer_by, peer_command as peer_by_words, port_word, server_at as server_by, server_command as server_by_words, sized_command as sized_by};
 
 use address_text::read_address;
 use text_lines::number_in;
@@ -14,6 +14,14 @@ pub enum Places {
     /// The server listens at `address`, for logins at the port `auth` and for accounting at `acct`. The home server is the
     /// peer.
     Serve {
+        address: u32,
+        auth: u16,
+        acct: u16,
+        peer: u32,
+        port: u16,
+    },
+    /// The same, and the run is recorded.
+    Record {
         address: u32,
         auth: u16,
         acct: u16,
@@ -164,8 +172,31 @@ fn peer_command(word: &str, address: &str, port: &str, millis: &str) -> Option<C
     peer_at(word, address, port, millis)
 }
 
+/// The sockets of the server that a word names.
+fn server_at(word: &str, address: u32, auth: u16, acct: u16, peer: u32, port: u16) -> Option<Places>
+    ensures { result ≡ server_by word.now address auth acct peer port }
+{
+    match word {
+        "serve" => Some(Places::Serve {
+            address,
+            auth,
+            acct,
+            peer,
+            port,
+        }),
+        "record" => Some(Places::Record {
+            address,
+            auth,
+            acct,
+            peer,
+            port,
+        }),
+        _ => None,
+    }
+}
+
 /// The command of these seven words.
-fn serve_command(
+fn server_command(
     word: &str,
     address: &str,
     auth: &str,
@@ -174,27 +205,16 @@ fn serve_command(
     port: &str,
     millis: &str,
 ) -> Option<Command>
-    ensures { result ≡ serve_by_words word.now address.now auth.now acct.now peer.now port.now millis.now }
+    ensures { result ≡ server_by_words word.now address.now auth.now acct.now peer.now port.now millis.now }
 {
-    if word != "serve" {
-        return None;
-    }
     let address = read_address(address.as_bytes())?;
     let auth = port_in(auth)?;
     let acct = port_in(acct)?;
     let peer = read_address(peer.as_bytes())?;
     let port = port_in(port)?;
     let millis = millis_in(millis)?;
-    Some(Command::Run {
-        places: Places::Serve {
-            address,
-            auth,
-            acct,
-            peer,
-            port,
-        },
-        millis,
-    })
+    let places = server_at(word, address, auth, acct, peer, port)?;
+    Some(Command::Run { places, millis })
 }
 
 fn text(command: TextCommand) -> Command
@@ -219,7 +239,7 @@ pub fn command_of(words: &[String]) -> Option<Command>
             port.as_str(),
             millis.as_str(),
         ),
-        [word, address, auth, acct, peer, port, millis] => serve_command(
+        [word, address, auth, acct, peer, port, millis] => server_command(
             word.as_str(),
             address.as_str(),
             auth.as_str(),

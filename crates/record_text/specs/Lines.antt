@@ -4,6 +4,7 @@ use Rattle.wire_core.specs.Sink.{Appends, AppendsPrefix}
 use Rattle.printed_lines.specs.EventText.{event_line}
 use Rattle.run_record.specs.declared.entry.Entry.{Entry}
 use Rattle.record_text.specs.declared.writer.RecordText.{RecordText}
+use Rattle.record_text.specs.declared.writer.TextBase.{TextBase}
 
 abbrev pub text_of : List Entry → List ℕ
 text_of entries = flat_map (λ e. event_line e.moment e.input) entries
@@ -19,5 +20,5 @@ has_failed zero = false
 has_failed (suc n) = true
 
 -- the lines of these entries were written behind what stood there, or a beginning of them
-abbrev pub StandsWritten : {R K : Type 0} → (K → Option (List ℕ)) → RecordText R K → Option (List ℕ) → List Entry → Type 0
-StandsWritten {R} {K} written writer before entries = WroteLines (has_failed writer.faults) before (written writer.sink) (text_of entries)
+abbrev pub StandsWritten : {R K : Type 0} → (K → Option (List ℕ)) → RecordText R K → TextBase → List Entry → Type 0
+StandsWritten {R} {K} written writer base entries = WroteLines (has_failed writer.faults) base.written (written writer.sink) (text_of entries)

@@ -3,4 +3,4 @@
 
 mod writer;
 
-pub use writer::RecordText;
+pub use writer::{RecordText, TextBase};

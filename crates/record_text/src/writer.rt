@@ -1,10 +1,16 @@
 //! What writes the lines of a record.
 
-ghost use Rattle.std.specs.Prelude.{◌≡◌, not};
+ghost use Rattle.std.specs.Prelude.{◌≡◌, ◌⊎◌, not, IfOk, IfErr};
+ghost use Rattle.wire_core.specs.Counts.{Rose};
+ghost use Rattle.wire_core.specs.Sink.{Appends, AppendsPrefix};
+ghost use Rattle.agent_status.specs.declared.status.Status.TheVariants.{OutOfMemory, WriteFault};
+ghost use Rattle.printed_lines.specs.SettingsText.{settings_text};
 ghost use Rattle.printed_lines.specs.EventText.{event_line};
 ghost use Rattle.record_text.specs.Lines.{WroteLines, text_of};
 
-use printed_lines::print_event;
+use agent_settings::Config;
+use agent_status::Status;
+use printed_lines::{print_event, print_settings};
 use run_record::{Entry, EntryWriter};
 use std::alloc::Global;
 use std::collections::LinkedList;
@@ -15,6 +21,12 @@ use wire_core::{Put, Sink};
 
 /// How long it pauses where no entry is there, in milliseconds.
 const REST: u64 = 20;
+
+/// What stood on a sink before the first entry, where the sink tells it. Contracts alone speak of it.
+#[derive(Drop)]
+pub struct TextBase {
+    pub written: Option<LinkedList<u8>>,
+}
 
 /// Writes each entry of a record as a line of a transcript, and nothing once a write failed.
 #[derive(Drop)]
@@ -36,6 +48,24 @@ impl<R, K> RecordText<R, K> {
             alloc,
             sink,
             faults: 0,
+        }
+    }
+}
+
+impl<R, K: Sink> RecordText<R, K> {
+    /// Writes the lines of the settings that a run has, before its first entry.
+    pub fn begin(&mut self, config: &Config) -> Result<(), Status>
+        ensures done { IfOk result (λ _. Appends (K.written self.old.sink) (K.written self.new.sink) (settings_text config.now)) }
+        ensures failed { IfErr result (λ status. ((status ≡ WriteFault) × Rose (K.faults self.old.sink) (K.faults self.new.sink)) ⊎ (status ≡ OutOfMemory)) }
+        ensures cut { IfErr result (λ _. AppendsPrefix (K.written self.old.sink) (K.written self.new.sink) (settings_text config.now)) }
+        ensures faults { self.new.faults ≡ self.old.faults }
+    {
+        let Ok(lines) = print_settings(self.alloc, config) else {
+            return Err(Status::OutOfMemory);
+        };
+        match self.sink.write(lines.as_slice()) {
+            Put::Done => Ok(()),
+            Put::Failed => Err(Status::WriteFault),
         }
     }
 }
@@ -66,7 +96,7 @@ impl<R: Wait + rt::Clock + Send + Drop + 'static, K: Sink + Send + Drop + 'stati
     for RecordText<R, K> {
     ghost use Rattle.record_text.specs.Lines.{StandsWritten};
 
-    type Base = Option<LinkedList<u8>>;
+    type Base = TextBase;
 
     ghost stands = { StandsWritten K.written };
 

@@ -15,6 +15,7 @@ use wire_devices::MemoryClock;
 mod failing_devices;
 mod links;
 mod octets;
+mod recordings;
 mod records;
 mod runs;
 mod sockets;

@@ -16,7 +16,10 @@ use Rattle.agent_server.specs.Desks.{AreRead, HasRead}
 use Rattle.server_workers.specs.Entries.{RunTurn}
 use Rattle.agent_server.specs.Server.{Because, EndsEarly}
 use Rattle.text_commands.specs.Tasks.{EndsCounts}
-use Rattle.socket_commands.specs.Serves.{IsRunEnd, IsSoundEnd, RanFor, Reports, after_failure}
+use Rattle.agent_core.specs.Places.{Event}
+use Rattle.agent_server.specs.declared.server.World.{World}
+use Rattle.agent_server.specs.Ran.{HasToldOnly, RanFrom}
+use Rattle.socket_commands.specs.Serves.{HasToldFirst, IsRunEnd, IsSoundEnd, Reports, after_failure}
 
 pub either : {A B C : Type 0} → (A → C) → (B → C) → A ⊎ B → C
 either f g (inl a) = f a
@@ -64,7 +67,7 @@ counts-read (LinkEnded cause) a a' b b' d d' read ended wrote = tt
 -- ---- a run by settings
 
 -- a status that a run ends with, and what else it is told by
-end-known : (end : Status) (own turns : List RunTurn) (causes : List LinkCause) (auth acct dials : ℕ) (refused : Type 0) → Because end own turns causes auth acct dials refused → IsRunEnd end
+pub end-known : (end : Status) (own turns : List RunTurn) (causes : List LinkCause) (auth acct dials : ℕ) (refused : Type 0) → Because end own turns causes auth acct dials refused → IsRunEnd end
 end-known Done own turns causes auth acct dials refused b = tt
 end-known LinkFault own turns causes auth acct dials refused b = tt
 end-known (PeerRefused code) own turns causes auth acct dials refused b = tt
@@ -80,7 +83,7 @@ end-known WriteFault own turns causes auth acct dials refused b = absurd b
 end-known TooLong own turns causes auth acct dials refused b = absurd b
 
 -- no run by itself ends with a failed write
-end-writes : (end : Status) (own turns : List RunTurn) (causes : List LinkCause) (auth acct dials : ℕ) (refused : Type 0) → Because end own turns causes auth acct dials refused → end ≡ WriteFault → ⊥
+pub end-writes : (end : Status) (own turns : List RunTurn) (causes : List LinkCause) (auth acct dials : ℕ) (refused : Type 0) → Because end own turns causes auth acct dials refused → end ≡ WriteFault → ⊥
 end-writes WriteFault own turns causes auth acct dials refused b same = b
 end-writes Done own turns causes auth acct dials refused b same = cc same
 end-writes LinkFault own turns causes auth acct dials refused b same = cc same
@@ -168,7 +171,7 @@ early-sound ReadFault told until dials dials' twin start e links sockets threads
 early-sound WriteFault told until dials dials' twin start e links sockets threads = absurd e
 early-sound TooLong told until dials dials' twin start e links sockets threads = absurd e
 
-end-sound : (end : Status) (own turns : List RunTurn) (causes : List LinkCause) (auth acct dials : ℕ) (refused : Type 0) → Because end own turns causes auth acct dials refused
+pub end-sound : (end : Status) (own turns : List RunTurn) (causes : List LinkCause) (auth acct dials : ℕ) (refused : Type 0) → Because end own turns causes auth acct dials refused
     → (dials ≡ 16 → ⊥) → ((auth ≡ 16) ⊎ (acct ≡ 16) → ⊥) → (refused → ⊥) → IsSoundEnd end
 end-sound Done own turns causes auth acct dials refused b links sockets threads = tt
 end-sound LinkFault own turns causes auth acct dials refused b links sockets threads = absurd (links b.0)
@@ -184,32 +187,11 @@ end-sound ReadFault own turns causes auth acct dials refused b links sockets thr
 end-sound WriteFault own turns causes auth acct dials refused b links sockets threads = absurd b
 end-sound TooLong own turns causes auth acct dials refused b links sockets threads = absurd b
 
-reported-sound : (end status : Status) (line : List ℕ) (before now : Option (List ℕ)) (faults faults' : ℕ) → Reports end status line before now faults faults' → (Rose faults faults' → ⊥)
+pub reported-sound : (end status : Status) (line : List ℕ) (before now : Option (List ℕ)) (faults faults' : ℕ) → Reports end status line before now faults faults' → (Rose faults faults' → ⊥)
     → IsSoundEnd end → IsSoundEnd status
 reported-sound end status line before now faults faults' (inl (wrote, same)) writes sound = subst IsSoundEnd (sym same) sound
 reported-sound end status line before now faults faults' (inr (inl (wrote, rose, same))) writes sound = absurd (writes rose)
 reported-sound end status line before now faults faults' (inr (inr (same, memory))) writes sound = subst IsSoundEnd (sym memory) tt
-
-module _ {C D I O : Type 0} (readings : C → Option (List ℕ)) (told : D → Socket) (hears : I → Inlet) (speaks : O → Outlet) where
-  pub ran-known : {config : Config} {millis : ℕ} {before : List ℕ} {auth acct auth' acct' : Socket} {dials dials' : Dials} {starts starts' : ℕ} {clock : C} {trail : Trail C D I O} {status : Status}
-      {written written' : Option (List ℕ)} {faults faults' : ℕ}
-      → RanFor readings told hears speaks config millis before auth acct auth' acct' dials dials' starts starts' clock trail status written written' faults faults' → IsRunEnd status
-  ran-known ran = reported-known ran.end _ _ _ _ _ _ ran.reported (end-known ran.end _ _ _ _ _ _ _ ran.served.because)
-
-  pub ran-wrote : {config : Config} {millis : ℕ} {before : List ℕ} {auth acct auth' acct' : Socket} {dials dials' : Dials} {starts starts' : ℕ} {clock : C} {trail : Trail C D I O} {status : Status}
-      {written written' : Option (List ℕ)} {faults faults' : ℕ}
-      → RanFor readings told hears speaks config millis before auth acct auth' acct' dials dials' starts starts' clock trail status written written' faults faults'
-      → status ≡ WriteFault → Rose faults faults'
-  ran-wrote ran = reported-wrote ran.end _ _ _ _ _ _ ran.reported (end-writes ran.end _ _ _ _ _ _ _ ran.served.because)
-
-  pub ran-sound : {config : Config} {millis : ℕ} {before : List ℕ} {auth acct auth' acct' : Socket} {dials dials' : Dials} {starts starts' : ℕ} {clock : C} {trail : Trail C D I O} {status : Status}
-      {written written' : Option (List ℕ)} {faults faults' : ℕ}
-      → RanFor readings told hears speaks config millis before auth acct auth' acct' dials dials' starts starts' clock trail status written written' faults faults'
-      → (Rose faults faults' → ⊥) → (Rose auth.faults auth'.faults → ⊥) → (Rose acct.faults acct'.faults → ⊥) → (Rose dials.faults dials'.faults → ⊥) → (Rose starts starts' → ⊥) → IsSoundEnd status
-  ran-sound ran writes auths accts links threads =
-      reported-sound ran.end _ _ _ _ _ _ ran.reported writes
-      (end-sound ran.end _ _ _ _ _ _ _ ran.served.because (λ row. links (ran.served.dials_failed row))
-      (λ s. either (λ row. auths (ran.served.auth_failed row)) (λ row. accts (ran.served.acct_failed row)) s) threads)
 
 -- ---- where there is a value, or none
 
@@ -231,3 +213,50 @@ boot-limits config boot limits = record {
   clients = limits.clients;
   distinct = limits.distinct;
 }
+
+-- ---- a run behind one reading
+
+module _ {C D L W I O : Type 0} (readings : C → Option (List ℕ)) (told : D → Socket) (hears : I → Inlet) (speaks : O → Outlet)
+    (dials : L → Dials) (made : L → ℕ) (faults started : W → ℕ) where
+  -- the clock was read once before the run, of which less is said
+  pub ran-after : (world : World C D L W) (clock : C) (first : ℕ) (config : Config) (until : ℕ) (world' : World C D L W) (status : Status) (trail : Option (Trail C D I O))
+      (has has' : List Event → Type 0) → ((events : List Event) → has events → has' events) → Adds (readings world.clock) (readings clock) (first ∷ [])
+      → RanFrom readings told hears speaks dials made faults started (HasToldOnly (readings clock)) config until (record world { clock = clock }) world' status trail has
+      → RanFrom readings told hears speaks dials made faults started (HasToldFirst (readings world.clock) first) config until world world' status trail has'
+  ran-after world clock first config until world' status trail has has' more adds ran =
+      let later : (all : List ℕ) → HasToldFirst (readings world.clock) first all → HasRead (readings clock) all [] =
+      λ all (before, read, is). subst (λ b. HasRead (readings clock) b []) (sym is) (has-read-first (readings world.clock) (readings clock) before first read adds) in
+      record {
+        workers = ran.workers;
+        links = ran.links;
+        ports = ran.ports;
+        order = ran.order;
+        began = λ all begun.
+            none-maps trail _ _ (λ b. record { turns = b.turns; run = b.run; clock_read = b.clock_read; of_record = more _ b.of_record }) (ran.began all (later all begun));
+        served = λ all begun. ran.served all (later all begun);
+        recorded = λ all begun. some-maps trail _ _ (λ t recorded. more _ recorded) (ran.recorded all (later all begun));
+        early = λ all begun. ran.early all (later all begun);
+      }
+
+  -- ---- how such a run ended
+
+  pub ran-known : (begun : List ℕ → Type 0) (config : Config) (until : ℕ) (world world' : World C D L W) (status : Status) (trail : Option (Trail C D I O)) (has : List Event → Type 0)
+      (before : List ℕ) → begun before → RanFrom readings told hears speaks dials made faults started begun config until world world' status trail has → IsRunEnd status
+  ran-known begun config until world world' status None has before is ran = early-known status _ _ _ _ _ _ (ran.early before is)
+  ran-known begun config until world world' status (Some t) has before is ran = end-known status _ _ _ _ _ _ _ (ran.served before is).because
+
+  pub ran-writes : (begun : List ℕ → Type 0) (config : Config) (until : ℕ) (world world' : World C D L W) (status : Status) (trail : Option (Trail C D I O)) (has : List Event → Type 0)
+      (before : List ℕ) → begun before → RanFrom readings told hears speaks dials made faults started begun config until world world' status trail has → status ≡ WriteFault → ⊥
+  ran-writes begun config until world world' status None has before is ran = early-writes status _ _ _ _ _ _ (ran.early before is)
+  ran-writes begun config until world world' status (Some t) has before is ran = end-writes status _ _ _ _ _ _ _ (ran.served before is).because
+
+  pub ran-sound : (begun : List ℕ → Type 0) (config : Config) (until : ℕ) (world world' : World C D L W) (status : Status) (trail : Option (Trail C D I O)) (has : List Event → Type 0)
+      (before : List ℕ) → begun before → RanFrom readings told hears speaks dials made faults started begun config until world world' status trail has
+      → (Rose (told world.auth).faults (told world'.auth).faults → ⊥) → (Rose (told world.acct).faults (told world'.acct).faults → ⊥)
+      → (Rose (dials world.dialer).faults (dials world'.dialer).faults → ⊥) → (Rose (faults world.crew) (faults world'.crew) → ⊥) → IsSoundEnd status
+  ran-sound begun config until world world' status None has before is ran auths accts links threads =
+      early-sound status _ _ _ _ _ _ (ran.early before is) links (λ twin. either auths accts twin) threads
+  ran-sound begun config until world world' status (Some t) has before is ran auths accts links threads =
+      let served = ran.served before is in
+      end-sound status _ _ _ _ _ _ _ served.because (λ row. links (served.dials_failed row))
+      (λ s. either (λ row. auths (served.auth_failed row)) (λ row. accts (served.acct_failed row)) s) threads

@@ -1,2 +1,3 @@
 pub mod PeerEnds
 pub mod Serves
+pub mod Records

@@ -1,5 +1,5 @@
 -- How the command `serve` ends.
-use Rattle.std.specs.Prelude.{◌≡◌, ℕ, ◌⊎◌, ◌/◌, ◌%◌, ◌^◌, nat_lt, if◌then◌else◌, List, [], ◌∷◌, ◌++◌, codes, decimal, Option, Some}
+use Rattle.std.specs.Prelude.{◌≡◌, ℕ, ◌⊎◌, ◌/◌, ◌%◌, ◌^◌, nat_lt, if◌then◌else◌, List, [], ◌∷◌, ◌++◌, codes, decimal, Option, Some, None, IfSome, IfNone}
 use Rattle.std.specs.Option.{option_or}
 use Rattle.wire_core.specs.Counts.{Rose}
 use Rattle.wire_core.specs.Sink.{Appends, AppendsPrefix}
@@ -10,9 +10,12 @@ use Rattle.wire_devices.specs.Dialling.{Dials}
 use Rattle.wire_devices.specs.Links.{Inlet, Outlet}
 use Rattle.wire_devices.specs.Sockets.{Socket}
 use Rattle.agent_server.specs.declared.trail.Trail.{Trail}
-use Rattle.agent_server.specs.Ran.{IsAny}
-use Rattle.agent_server.specs.Server.{Began, EndsEarly, Served, rank}
-use Rattle.text_commands.specs.SettingsInput.{SettingsTaken}
+use Rattle.agent_core.specs.Places.{Event}
+use Rattle.agent_server.specs.declared.server.World.{World}
+use Rattle.agent_server.specs.Desks.{HasRead}
+use Rattle.agent_server.specs.Ran.{IsAny, RanFrom}
+use Rattle.agent_server.specs.Server.{rank}
+use Rattle.text_commands.specs.SettingsInput.{SettingsNot, SettingsTaken}
 use Rattle.peer_runs.specs.Until.{until_of}
 
 -- ---- what a run begins from
@@ -40,34 +43,34 @@ Reports end status line before now faults faults' =
 
 -- ---- a run
 
-module _ {C D I O : Type 0} (readings : C → Option (List ℕ)) (told : D → Socket) (hears : I → Inlet) (speaks : O → Outlet) where
-  -- The server ran by these settings up to so long after the clock's first reading, and this was written of it.
-  pub record RanFor (config : Config) (millis : ℕ) (before : List ℕ) (auth acct auth' acct' : Socket) (dials dials' : Dials) (starts starts' : ℕ)
-      (clock : C) (trail : Trail C D I O) (status : Status) (written written' : Option (List ℕ)) (faults faults' : ℕ) : Type 0 where
-    pub first : ℕ
-    pub end : Status
-    pub served : Served readings told hears speaks (with_boot first config) (until_of first millis) (before ++ first ∷ []) auth acct auth' acct' dials dials' starts starts' clock trail end
-    pub reported : Reports end status (served_line trail.entries trail.lost) written written' faults faults'
+-- these are all readings that a clock told, of which the run took the last as its first
+abbrev pub HasToldFirst : Option (List ℕ) → ℕ → List ℕ → Type 0
+HasToldFirst told first readings = (before : List ℕ) × HasRead told before [] × (readings ≡ before ++ first ∷ [])
 
-  -- the same by the settings of the input
-  pub record RanServer (millis : ℕ) (input left : Option (List ℕ)) (before : List ℕ) (auth acct auth' acct' : Socket) (dials dials' : Dials) (starts starts' : ℕ)
-      (clock : C) (trail : Trail C D I O) (status : Status) (written written' : Option (List ℕ)) (faults faults' : ℕ) : Type 0 where
+module _ {C D L W I O : Type 0} (readings : C → Option (List ℕ)) (told : D → Socket) (hears : I → Inlet) (speaks : O → Outlet)
+    (dials : L → Dials) (made : L → ℕ) (faults started : W → ℕ) where
+  -- The server ran by these settings up to so long after the clock's first reading. `has` is what holds then of the entries
+  -- that a record of the run has.
+  pub record RanFor (config : Config) (millis : ℕ) (world world' : World C D L W) (end : Status) (trail : Option (Trail C D I O)) (has : ℕ → List Event → Type 0) : Type 0 where
+    pub first : ℕ
+    pub ran : RanFrom readings told hears speaks dials made faults started (HasToldFirst (readings world.clock) first) (with_boot first config) (until_of first millis)
+        world world' end trail (has first)
+
+  -- Settings were read from the input, and the server ran by them. Where its workers were started the line that tells of it
+  -- was written.
+  pub record RanServer (millis : ℕ) (input left : Option (List ℕ)) (world world' : World C D L W) (status : Status) (trail : Option (Trail C D I O))
+      (written written' : Option (List ℕ)) (writes writes' : ℕ) : Type 0 where
     pub config : Config
     pub settings : SettingsTaken config input left
-    pub ran : RanFor config millis before auth acct auth' acct' dials dials' starts starts' clock trail status written written' faults faults'
+    pub end : Status
+    pub run : RanFor config millis world world' end trail (λ first. IsAny)
+    pub reported : IfSome trail (λ t. Reports end status (served_line t.entries t.lost) written written' writes writes')
+    pub unreported : IfNone trail (status ≡ end)
 
--- The run by these settings ended before its workers were started. Its first reading of the clock, after those before, is the
--- one from which its time is counted.
-pub record EndsBefore (status : Status) (config : Config) (millis : ℕ) (before : List ℕ) (clock : Option (List ℕ)) (dials dials' : Dials) (twin start : Type 0) : Type 0 where
-  pub first : ℕ
-  pub began : Began (with_boot first config) (until_of first millis) (before ++ first ∷ []) clock IsAny
-  pub early : EndsEarly status clock (until_of first millis) dials dials' twin start
-
--- the same, and its settings were read
-pub record EndedEarly (status : Status) (millis : ℕ) (input left : Option (List ℕ)) (before : List ℕ) (clock : Option (List ℕ)) (dials dials' : Dials) (twin start : Type 0) : Type 0 where
-  pub config : Config
-  pub settings : SettingsTaken config input left
-  pub ended : EndsBefore status config millis before clock dials dials' twin start
+  -- the settings of the input could be read and the server ran, or they couldn't and nothing was done
+  abbrev pub ServesBy : ℕ → Option (List ℕ) → Option (List ℕ) → World C D L W → World C D L W → Status → Option (Trail C D I O) → Option (List ℕ) → Option (List ℕ) → ℕ → ℕ → Type 0
+  ServesBy millis input left world world' status trail written written' writes writes' =
+      (SettingsNot status input left × (world' ≡ world) × (trail ≡ None)) ⊎ RanServer millis input left world world' status trail written written' writes writes'
 
 -- how a run ends that began
 abbrev pub IsRunEnd : Status → Type 0

@@ -1,19 +1,15 @@
 //! The command `serve`.
 
-ghost use Rattle.std.specs.Prelude.{◌≡◌, ◌≢◌, ◌≤◌, ◌⊎◌, ◌∷◌, [], ◌++◌, ℕ, List, length, Ok, Err, Some, None, IfSome, IfNone, IfOk, IfErr};
+ghost use Rattle.std.specs.Prelude.{◌≡◌, ◌≢◌, ◌≤◌, ℕ, List, length, Ok, Err, Some, None, IfSome, IfNone, IfOk};
 ghost use Rattle.wire_core.specs.Counts.{Rose};
 ghost use Rattle.agent_settings.specs.declared.config.Config.{Config};
 ghost use Rattle.agent_settings.specs.Config.{InLimits};
 ghost use Rattle.agent_config.specs.Settings.{settings_in};
-ghost use Rattle.agent_settings.specs.declared.fault.ConfigFault.{ConfigFault};
-ghost use Rattle.agent_server.specs.Desks.{HasRead};
-ghost use Rattle.agent_server.specs.Server.{HasTrail, twins_of};
-ghost use Rattle.server_workers.specs.Running.{InOrder, counted, numbers_of, ports_of};
-ghost use Rattle.text_commands.specs.SettingsInput.{SettingsNot};
+ghost use Rattle.agent_status.specs.declared.status.Status.{Status};
+ghost use Rattle.agent_server.specs.Ran.{IsAny};
 ghost use Rattle.text_commands.specs.Tasks.{EndsCounts};
 ghost use Rattle.text_commands.specs.WholeInput.{most_whole};
-ghost use Rattle.peer_runs.specs.Until.{until_of};
-ghost use Rattle.socket_commands.specs.Serves.{EndedEarly, EndsBefore, IsRunEnd, IsSoundEnd, RanFor, RanServer, Reports, after_failure, served_line, with_boot};
+ghost use Rattle.socket_commands.specs.Serves.{IsRunEnd, IsSoundEnd, RanFor, Reports, ServesBy, after_failure, served_line, with_boot};
 
 use agent_server::{Finish, Worker, World, serve};
 use agent_settings::Config;
@@ -26,7 +22,7 @@ use wire_core::{NoMemory, Octets, Sink, Source};
 use wire_devices::{Clock, Crew, Datagrams, Dialer};
 
 /// The settings with the boot that a run has: where none is set, the clock's first reading in whole seconds.
-fn booted(mut config: Config, first: u64) -> Config
+pub(crate) fn booted(mut config: Config, first: u64) -> Config
     requires { InLimits config }
     ensures exact { result ≡ with_boot first config }
     ensures limits { InLimits result }
@@ -101,19 +97,9 @@ where
     requires limits { InLimits config }
     requires rows { ((D.told world.auth).row ≡ 0) × ((D.told world.acct).row ≡ 0) × ((L.told world.dialer).row ≡ 0) }
     ensures home { result.home ≡ None }
-    ensures trail { HasTrail result.trail (W.started world.crew) (W.started result.world.crew) }
-    ensures links { IfSome result.trail (λ trail. L.made result.world.dialer ≡ counted (L.made world.dialer) (length trail.links)) }
-    ensures ports { IfSome result.trail (λ trail. ports_of D.told (twins_of trail) ≡ ((D.told world.auth).port, (D.told world.acct).port)) }
-    ensures order { IfSome result.trail (λ trail. InOrder (L.made world.dialer) (numbers_of L.In.told trail.links)) }
-    ensures served { (before : List ℕ) → HasRead (C.readings world.clock) before []
-        → IfSome result.trail (λ trail. RanFor C.readings D.told L.In.told L.Out.told config millis before
-        (D.told world.auth) (D.told world.acct) (D.told result.world.auth) (D.told result.world.acct) (L.told world.dialer) (L.told result.world.dialer)
-        (W.faults world.crew) (W.faults result.world.crew) result.world.clock trail result.status
-        (K.written output.old) (K.written output.new) (K.faults output.old) (K.faults output.new)) }
-    ensures early { (before : List ℕ) → HasRead (C.readings world.clock) before []
-        → IfNone result.trail (EndsBefore result.status config millis before (C.readings result.world.clock) (L.told world.dialer) (L.told result.world.dialer)
-        (Rose (D.told world.auth).faults (D.told result.world.auth).faults ⊎ Rose (D.told world.acct).faults (D.told result.world.acct).faults)
-        (Rose (W.faults world.crew) (W.faults result.world.crew))) }
+    ensures ran { (end : Status) × RanFor C.readings D.told L.In.told L.Out.told L.told L.made W.faults W.started config millis world result.world end result.trail (λ first. IsAny)
+        × IfSome result.trail (λ t. Reports end result.status (served_line t.entries t.lost) (K.written output.old) (K.written output.new) (K.faults output.old) (K.faults output.new))
+        × IfNone result.trail (result.status ≡ end) }
     ensures unwritten { IfNone result.trail (output.new ≡ output.old) }
     ensures ends { IsRunEnd result.status }
     ensures wrote { result.status ≡ Status.WriteFault → Rose (K.faults output.old) (K.faults output.new) }
@@ -185,20 +171,8 @@ where
     requires rows { ((D.told world.auth).row ≡ 0) × ((D.told world.acct).row ≡ 0) × ((L.told world.dialer).row ≡ 0) }
     ensures begun { result.status ≢ Status.Usage }
     ensures home { result.home ≡ None }
-    ensures trail { HasTrail result.trail (W.started world.crew) (W.started result.world.crew) }
-    ensures links { IfSome result.trail (λ trail. L.made result.world.dialer ≡ counted (L.made world.dialer) (length trail.links)) }
-    ensures ports { IfSome result.trail (λ trail. ports_of D.told (twins_of trail) ≡ ((D.told world.auth).port, (D.told world.acct).port)) }
-    ensures order { IfSome result.trail (λ trail. InOrder (L.made world.dialer) (numbers_of L.In.told trail.links)) }
-    ensures served { (before : List ℕ) → HasRead (C.readings world.clock) before []
-        → IfSome result.trail (λ trail. RanServer C.readings D.told L.In.told L.Out.told millis (S.left input.old) (S.left input.new) before
-        (D.told world.auth) (D.told world.acct) (D.told result.world.auth) (D.told result.world.acct) (L.told world.dialer) (L.told result.world.dialer)
-        (W.faults world.crew) (W.faults result.world.crew) result.world.clock trail result.status
-        (K.written output.old) (K.written output.new) (K.faults output.old) (K.faults output.new)) }
-    ensures early { (before : List ℕ) → HasRead (C.readings world.clock) before []
-        → IfNone result.trail ((SettingsNot result.status (S.left input.old) (S.left input.new) × (result.world ≡ world))
-        ⊎ EndedEarly result.status millis (S.left input.old) (S.left input.new) before (C.readings result.world.clock) (L.told world.dialer) (L.told result.world.dialer)
-        (Rose (D.told world.auth).faults (D.told result.world.auth).faults ⊎ Rose (D.told world.acct).faults (D.told result.world.acct).faults)
-        (Rose (W.faults world.crew) (W.faults result.world.crew))) }
+    ensures served { ServesBy C.readings D.told L.In.told L.Out.told L.told L.made W.faults W.started millis (S.left input.old) (S.left input.new)
+        world result.world result.status result.trail (K.written output.old) (K.written output.new) (K.faults output.old) (K.faults output.new) }
     ensures unwritten { IfNone result.trail (output.new ≡ output.old) }
     ensures counts { EndsCounts result.status (S.ends input.old) (S.ends input.new) (S.faults input.old) (S.faults input.new)
         (K.faults output.old) (K.faults output.new) }

@@ -9,6 +9,21 @@ use std::test::Fail;
 use wire_core::{NoMemory, Octets};
 use wire_devices::Datagram;
 
+/// The settings of `settings`, as text.
+pub(super) const SETTINGS: &[u8] = b"\
+host = \"agent.example\"
+realm = \"example\"
+address = \"192.0.2.1\"
+boot = 7
+
+[[clients]]
+name = \"nas1\"
+address = \"192.168.1.16\"
+secret = \"xyzzy5461\"
+origin_host = \"nas1.example\"
+origin_realm = \"example\"
+";
+
 /// Where the access server is.
 const ADDRESS: u32 = 0xc0a8_0110;
 
@@ -59,6 +74,9 @@ pub(super) const INCAPABLE: [&str; 2] = [
 000001014000000e0001c000020200000000010a4000000c000000000000010d0000000c686f6d65\
 000001024000000c00000001000001034000000c00000003",
 ];
+
+/// Octets that no message begins with.
+pub(super) const STRANGE: [&str; 2] = ["020000140000011800000000", ""];
 
 /// A login that is sent again, of the first session and of the second.
 pub(super) const AGAIN: [&str; 2] = [

@@ -410,6 +410,11 @@ impl WaitingOut {
     pub(super) fn sent(&self, number: usize) -> Option<&Octets> {
         self.sent.as_slice().get(number)
     }
+
+    /// All pieces.
+    pub(super) fn pieces(&self) -> &[Octets] {
+        self.sent.as_slice()
+    }
 }
 
 impl LinkOut for WaitingOut {

@@ -1,16 +1,10 @@
-use Rattle.std.proofs.Common.{inr, arith}
-use Rattle.socket_commands.proofs.ServeLemmas.{none-maps, some-maps}
+use Rattle.std.proofs.Common.{rules, inl, inr, refl}
 use Rattle.socket_commands.proofs.serving.run_server.Goals as goal
 
 pub returns-in-Ok-clause-served : goal.returns-in-Ok-clause-served
-returns-in-Ok-clause-served g c = λ before read.
-    some-maps c.serve_for.result.trail _ _ (λ trail ran. record { config = c.in-Ok.config; settings = c.in-Ok.ensures.taken; ran = ran })
-    (c.serve_for.ensures.served before read)
+returns-in-Ok-clause-served g c =
+    let (end, run, reported, unreported) = c.serve_for.ensures.ran in
+    inr (record { config = c.in-Ok.config; settings = c.in-Ok.ensures.taken; end = end; run = run; reported = reported; unreported = unreported })
 
-pub returns-in-Ok-clause-early : goal.returns-in-Ok-clause-early
-returns-in-Ok-clause-early g c = λ before read.
-    none-maps c.serve_for.result.trail _ _ (λ early. inr (record { config = c.in-Ok.config; settings = c.in-Ok.ensures.taken; ended = early }))
-    (c.serve_for.ensures.early before read)
-
-pub returns-in-Err-clause-trail : goal.returns-in-Err-clause-trail
-returns-in-Err-clause-trail g c = rw c.idle.ensures (omega arith)
+pub returns-in-Err-clause-served : goal.returns-in-Err-clause-served
+returns-in-Err-clause-served g c = inl (rw c.idle.ensures (search rules, refl, refl))

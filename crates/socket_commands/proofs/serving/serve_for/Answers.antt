@@ -1,15 +1,6 @@
-use Rattle.std.proofs.Common.{[], ◌∷◌, ◌++◌}
-use Rattle.socket_commands.proofs.ServeLemmas.{early-known, early-sound, early-writes, either, has-read-first, ran-known, ran-sound, ran-wrote, told-before}
+use Rattle.std.proofs.Common.{[], ◌∷◌, ◌++◌, refl}
+use Rattle.socket_commands.proofs.ServeLemmas.{early-known, early-sound, early-writes, either, end-known, end-sound, end-writes, has-read-first, ran-after, reported-known, reported-sound, reported-wrote, told-before}
 use Rattle.socket_commands.proofs.serving.serve_for.Goals as goal
-
-pub returns-in_default-clause-early : goal.returns-in_default-clause-early
-returns-in_default-clause-early g c = λ before read.
-    let later = has-read-first _ _ before c.now-first.result read c.now-first.ensures in
-    record {
-      first = c.now-first.result;
-      began = rw (c.saturating_add-until.ensures, c.booted.ensures.exact) at (rw c.in_default.is at (c.serve-end.ensures.ran.began (before ++ c.now-first.result ∷ []) later));
-      early = rw c.saturating_add-until.ensures at (rw c.in_default.is at (c.serve-end.ensures.ran.early (before ++ c.now-first.result ∷ []) later));
-    }
 
 pub returns-in_default-clause-ends : goal.returns-in_default-clause-ends
 returns-in_default-clause-ends g c =
@@ -30,42 +21,49 @@ returns-in_default-clause-sound g c = λ writes auths accts links threads.
     early-sound c.serve-end.result.status _ _ _ _ _ _ (rw c.in_default.is at (c.serve-end.ensures.ran.early (before ++ c.now-first.result ∷ []) later))
     links (λ twin. either auths accts twin) threads
 
-pub returns-clause-served : goal.returns-clause-served
-returns-clause-served g c = λ before read.
-    let later = has-read-first _ _ before c.now-first.result read c.now-first.ensures in
-    record {
-      first = c.now-first.result;
-      end = c.serve-end.result.status;
-      served = rw (c.saturating_add-until.ensures, c.booted.ensures.exact) at (rw c.in-Some.is at (c.serve-end.ensures.ran.served (before ++ c.now-first.result ∷ []) later));
-      reported = c.report-status.ensures;
-    }
+pub returns-in_default-clause-ran : goal.returns-in_default-clause-ran
+returns-in_default-clause-ran g c = (
+  c.serve-end.result.status,
+  record {
+    first = c.now-first.result;
+    ran = rw (c.saturating_add-until.ensures, c.booted.ensures.exact) at (rw c.in_default.is at (ran-after g.C.Clock.readings g.D.Datagrams.told g.L.In.LinkIn.told g.L.Out.LinkOut.told
+        g.L.Dialer.told g.L.Dialer.made g.W.Crew.faults g.W.Crew.started c.args.world c.now-first.new.self c.now-first.result _ _ _ _ _ _ _ (λ events has. has) c.now-first.ensures c.serve-end.ensures.ran));
+  },
+  tt,
+  refl,
+)
+
+pub returns-clause-ran : goal.returns-clause-ran
+returns-clause-ran g c = (
+  c.serve-end.result.status,
+  record {
+    first = c.now-first.result;
+    ran = rw (c.saturating_add-until.ensures, c.booted.ensures.exact) at (rw c.in-Some.is at (ran-after g.C.Clock.readings g.D.Datagrams.told g.L.In.LinkIn.told g.L.Out.LinkOut.told
+        g.L.Dialer.told g.L.Dialer.made g.W.Crew.faults g.W.Crew.started c.args.world c.now-first.new.self c.now-first.result _ _ _ _ _ _ _ (λ events has. has) c.now-first.ensures c.serve-end.ensures.ran));
+  },
+  c.report-status.ensures,
+  tt,
+)
 
 pub returns-clause-ends : goal.returns-clause-ends
 returns-clause-ends g c =
     let (before, read) = told-before (g.C.Clock.readings c.args.world.clock) in
-    ran-known _ _ _ _ (returns-clause-served g c before read)
+    let later = has-read-first _ _ before c.now-first.result read c.now-first.ensures in
+    let served = rw c.in-Some.is at (c.serve-end.ensures.ran.served (before ++ c.now-first.result ∷ []) later) in
+    reported-known _ _ _ _ _ _ _ c.report-status.ensures (end-known _ _ _ _ _ _ _ _ served.because)
 
 pub returns-clause-wrote : goal.returns-clause-wrote
 returns-clause-wrote g c =
     let (before, read) = told-before (g.C.Clock.readings c.args.world.clock) in
-    ran-wrote _ _ _ _ (returns-clause-served g c before read)
+    let later = has-read-first _ _ before c.now-first.result read c.now-first.ensures in
+    let served = rw c.in-Some.is at (c.serve-end.ensures.ran.served (before ++ c.now-first.result ∷ []) later) in
+    reported-wrote _ _ _ _ _ _ _ c.report-status.ensures (end-writes _ _ _ _ _ _ _ _ served.because)
 
 pub returns-clause-sound : goal.returns-clause-sound
-returns-clause-sound g c =
+returns-clause-sound g c = λ writes auths accts links threads.
     let (before, read) = told-before (g.C.Clock.readings c.args.world.clock) in
-    ran-sound _ _ _ _ (returns-clause-served g c before read)
-
-pub returns-in_default-clause-trail : goal.returns-in_default-clause-trail
-returns-in_default-clause-trail g c = rw c.in_default.is at c.serve-end.ensures.ran.workers
-
-pub returns-clause-trail : goal.returns-clause-trail
-returns-clause-trail g c = rw c.in-Some.is at c.serve-end.ensures.ran.workers
-
-pub returns-clause-links : goal.returns-clause-links
-returns-clause-links g c = rw c.in-Some.is at c.serve-end.ensures.ran.links
-
-pub returns-clause-ports : goal.returns-clause-ports
-returns-clause-ports g c = rw c.in-Some.is at c.serve-end.ensures.ran.ports
-
-pub returns-clause-order : goal.returns-clause-order
-returns-clause-order g c = rw c.in-Some.is at c.serve-end.ensures.ran.order
+    let later = has-read-first _ _ before c.now-first.result read c.now-first.ensures in
+    let served = rw c.in-Some.is at (c.serve-end.ensures.ran.served (before ++ c.now-first.result ∷ []) later) in
+    reported-sound _ _ _ _ _ _ _ c.report-status.ensures writes
+    (end-sound _ _ _ _ _ _ _ _ served.because (λ row. links (served.dials_failed row))
+    (λ s. either (λ row. auths (served.auth_failed row)) (λ row. accts (served.acct_failed row)) s) threads)
