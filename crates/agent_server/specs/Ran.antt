@@ -52,9 +52,10 @@ status_recorded Done (Some moment) = WriteFault
 status_recorded status closed = status
 
 -- the thread that writes couldn't be started, and so nothing was
-pub record Unstarted {C D L W T : Type 0} (world world' : World C D L W) (status : Status) (trail : Option T) (starts starts' : ℕ) : Type 0 where
+pub record Unstarted {C D L W T : Type 0} (world world' : World C D L W) (status : Status) (trail : Option T) (closed : Option ℕ) (starts starts' : ℕ) : Type 0 where
   pub same : world' ≡ world
   pub none : trail ≡ None
+  pub unclosed : closed ≡ None
   pub because : (status ≡ OutOfMemory) ⊎ ((status ≡ NoThread) × Rose starts starts')
 
 module _ {E Base : Type 0} (stands : E → Base → List Entry → Type 0) where

@@ -5,7 +5,6 @@ ghost use Rattle.wire_core.specs.Counts.{Rose};
 ghost use Rattle.wire_core.specs.Sink.{Appends, AppendsPrefix};
 ghost use Rattle.agent_status.specs.declared.status.Status.TheVariants.{OutOfMemory, WriteFault};
 ghost use Rattle.printed_lines.specs.SettingsText.{settings_text};
-ghost use Rattle.printed_lines.specs.EventText.{event_line};
 ghost use Rattle.record_text.specs.Lines.{WroteLines, text_of};
 
 use agent_settings::Config;
@@ -17,10 +16,13 @@ use std::collections::LinkedList;
 use std::sync::Wait;
 use std::time::Duration;
 use std::{rt, thread};
-use wire_core::{Put, Sink};
+use wire_core::{NoMemory, Put, Sink};
 
 /// How long it pauses where no entry is there, in milliseconds.
 const REST: u64 = 20;
+
+/// The lines of so many entries are written at once: a write for each would cost the system more than the lines do.
+const PIECE: usize = 64;
 
 /// What stood on a sink before the first entry, where the sink tells it. Contracts alone speak of it.
 #[derive(Drop)]
@@ -70,22 +72,34 @@ impl<R, K: Sink> RecordText<R, K> {
     }
 }
 
-/// Writes the line of an entry. It says whether it was written whole.
-fn write_line<K: Sink>(alloc: Global, sink: &mut K, entry: &Entry) -> bool
-    ensures { WroteLines (not result) (K.written sink.old) (K.written sink.new) (event_line entry.now.moment entry.now.input) }
+/// The lines of these entries.
+fn lines_of(alloc: Global, entries: &[Entry]) -> Result<Vec<u8>, NoMemory>
+    ensures { IfOk result (λ lines. lines.items ≡ text_of entries.now) }
 {
-    match print_event(alloc, entry.moment, &entry.input) {
-        Ok(line) => matches!(sink.write(line.as_slice()), Put::Done),
+    let mut lines = Vec::new(alloc);
+    for entry in entries {
+        let line = print_event(alloc, entry.moment, &entry.input)?;
+        lines.extend_from_slice(line.as_slice())?;
+    }
+    Ok(lines)
+}
+
+/// Writes the lines of these entries at once. It says whether they were written whole.
+fn write_piece<K: Sink>(alloc: Global, sink: &mut K, entries: &[Entry]) -> bool
+    ensures { WroteLines (not result) (K.written sink.old) (K.written sink.new) (text_of entries.now) }
+{
+    match lines_of(alloc, entries) {
+        Ok(lines) => matches!(sink.write(lines.as_slice()), Put::Done),
         Err(_) => false,
     }
 }
 
-/// Writes the lines of these entries, in order, until one can't be written whole. It says whether all were.
+/// Writes the lines of these entries, piece by piece, until one can't be written whole. It says whether all were.
 fn write_lines<K: Sink>(alloc: Global, sink: &mut K, entries: &[Entry]) -> bool
     ensures { WroteLines (not result) (K.written sink.old) (K.written sink.new) (text_of entries.now) }
 {
-    for entry in entries {
-        if !write_line(alloc, sink, entry) {
+    for piece in entries.chunks(PIECE) {
+        if !write_piece(alloc, sink, piece) {
             return false;
         }
     }

@@ -16,9 +16,10 @@ use Rattle.run_record.specs.declared.entry.Entry.{Entry}
 use Rattle.record_text.specs.declared.writer.RecordText.{RecordText}
 use Rattle.record_text.specs.declared.writer.TextBase.{TextBase}
 use Rattle.record_text.specs.Lines.{StandsWritten, WroteLines, has_failed, text_of}
+use Rattle.agent_server.specs.declared.server.World.{World}
 use Rattle.agent_server.specs.Desks.{event}
 use Rattle.agent_server.specs.Ran.{IsRecorded, status_recorded}
-use Rattle.socket_commands.specs.Records.{IsRecordText, text_recorded}
+use Rattle.socket_commands.specs.Records.{IsAsItWas, IsRecordText, text_recorded}
 use Rattle.socket_commands.specs.Serves.{IsRunEnd, IsSoundEnd}
 
 -- ---- lines
@@ -79,6 +80,10 @@ module _ {R K : Type 0} (written : K → Option (List ℕ)) where
       }
 
 -- ---- why no run began
+
+pub clock-alone : {C D L W : Type 0} (world world' : World C D L W) (clock : C) → world' ≡ record { clock = clock; auth = world.auth; acct = world.acct; dialer = world.dialer; crew = world.crew }
+    → IsAsItWas world world'
+clock-alone {C} {D} {L} {W} world world' clock is = subst (IsAsItWas world) (sym is) refl
 
 pub why-not : (status : Status) (write : Type 0) (starts starts' : ℕ) → (status ≡ OutOfMemory) ⊎ ((status ≡ NoThread) × Rose starts starts')
     → ((status ≡ WriteFault) × write) ⊎ ((status ≡ OutOfMemory) ⊎ ((status ≡ NoThread) × Rose starts starts'))

@@ -26,10 +26,17 @@ pub record IsRecordText (config : Config) (before now : Option (List ℕ)) (clos
   pub begins : AppendsPrefix before now (text_recorded config events)
   pub whole : closed ≡ None → Appends before now (text_recorded config events)
 
+-- the world is as it was, but for its clock
+abbrev pub IsAsItWas : {C D L W : Type 0} → World C D L W → World C D L W → Type 0
+IsAsItWas world world' = world' ≡ record { clock = world'.clock; auth = world.auth; acct = world.acct; dialer = world.dialer; crew = world.crew }
+
 -- no run began: the settings couldn't be written, or the thread that writes couldn't be started
-pub record RecordNot {T : Type 0} (config : Config) (status : Status) (trail : Option T) (before now : Option (List ℕ)) (writes writes' starts starts' : ℕ) : Type 0 where
+pub record RecordNot {C D L W T : Type 0} (config : Config) (world world' : World C D L W) (status : Status) (trail : Option T) (before now : Option (List ℕ)) (closed : Option ℕ)
+    (writes writes' starts starts' : ℕ) : Type 0 where
   pub first : ℕ
+  pub same : IsAsItWas world world'
   pub none : trail ≡ None
+  pub unclosed : closed ≡ None
   pub because : ((status ≡ WriteFault) × Rose writes writes') ⊎ ((status ≡ OutOfMemory) ⊎ ((status ≡ NoThread) × Rose starts starts'))
   pub wrote : AppendsPrefix before now (settings_text (with_boot first config))
 
@@ -47,4 +54,4 @@ module _ {C D L W I O : Type 0} (readings : C → Option (List ℕ)) (told : D �
       (before now : Option (List ℕ)) (writes writes' starts starts' : ℕ) (closed : Option ℕ) : Type 0 where
     pub config : Config
     pub settings : SettingsTaken config input left
-    pub recorded : RecordNot config status trail before now writes writes' starts starts' ⊎ RecordRan config millis world world' status trail before now closed
+    pub recorded : RecordNot config world world' status trail before now closed writes writes' starts starts' ⊎ RecordRan config millis world world' status trail before now closed

@@ -79,7 +79,7 @@ where
     requires rows { ((D.told world.auth).row ≡ 0) × ((D.told world.acct).row ≡ 0) × ((L.told world.dialer).row ≡ 0) }
     requires sound { tape.writer.faults ≡ 0 }
     ensures home { result.finish.home ≡ None }
-    ensures recorded { RecordNot config result.finish.status result.finish.trail (T.written tape.writer.sink) (T.written result.tape.writer.sink)
+    ensures recorded { RecordNot config world result.finish.world result.finish.status result.finish.trail (T.written tape.writer.sink) (T.written result.tape.writer.sink) result.closed
         (T.faults tape.writer.sink) (T.faults result.tape.writer.sink) (V.faults tape.crew) (V.faults result.tape.crew)
         ⊎ RecordRan C.readings D.told L.In.told L.Out.told L.told L.made W.faults W.started config millis world result.finish.world result.finish.status result.finish.trail
         (T.written tape.writer.sink) (T.written result.tape.writer.sink) result.closed }

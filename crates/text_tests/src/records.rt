@@ -37,6 +37,6 @@ fn is_written<R: Wait + rt::Clock + Send + Drop + 'static>(
 fn entries_are_written_as_lines(rt: HostRuntime) -> Result<(), Fail> {
     let alloc = rt.alloc();
     assert!(rt; is_written(rt, alloc, &[], Put::Done, "7 up\n12 leave\n")?);
-    assert!(rt; is_written(rt, alloc, &[1], Put::Failed, "7 up\n12 l")?);
+    assert!(rt; is_written(rt, alloc, &[0], Put::Failed, "7 up\n12")?);
     Ok(())
 }

@@ -1,8 +1,7 @@
-use Rattle.std.proofs.Common.{take}
-use Rattle.wire_core.specs.Sink.{Appends}
-use Rattle.record_text.specs.Lines.{text_of}
+use Rattle.std.specs.Slice.Iter.{chunks_rest}
+use Rattle.record_text.proofs.LineLemmas.{WroteTo}
 use Rattle.record_text.proofs.writer.write_lines.Given as goal
 
--- the lines so far were written
-abbrev pub invariant-loop-entry : goal.invariant-loop-entry
-invariant-loop-entry g l = Appends (g.K.Sink.written l.initial.sink) (g.K.Sink.written l.sink) (text_of (take l.entry-index l.entries))
+-- the pieces so far were written
+abbrev pub invariant-loop-piece : goal.invariant-loop-piece
+invariant-loop-piece g l = WroteTo (g.K.Sink.written l.initial.sink) (g.K.Sink.written l.sink) l.entries (chunks_rest l.piece-iterator)

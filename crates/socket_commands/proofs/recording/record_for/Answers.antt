@@ -3,7 +3,7 @@ use Rattle.agent_settings.specs.declared.config.Config.{Config}
 use Rattle.socket_commands.specs.Records.{IsRecordText}
 use Rattle.socket_commands.specs.Serves.{with_boot}
 use Rattle.record_text.specs.declared.writer.TextBase.{TextBase}
-use Rattle.socket_commands.proofs.RecordLemmas.{failed-known, failed-sound, is-text, recorded-known, recorded-sound, recorded-wrote, settings-alone, stands-begun, unstarted-known, unstarted-sound, unstarted-wrote, why-failed, why-not}
+use Rattle.socket_commands.proofs.RecordLemmas.{clock-alone, failed-known, failed-sound, is-text, recorded-known, recorded-sound, recorded-wrote, settings-alone, stands-begun, unstarted-known, unstarted-sound, unstarted-wrote, why-failed, why-not}
 use Rattle.socket_commands.proofs.ServeLemmas.{ran-after, ran-known, ran-sound, ran-writes, told-before}
 use Rattle.socket_commands.proofs.recording.record_for.Goals as goal
 
@@ -19,7 +19,9 @@ returns-clause-recorded g c =
     elim (c.record-finish.ensures.ran base (stands-begun written writer none)) [
       | inl (not, stood) ↦ inl (record {
         first = c.now-first.result;
+        same = clock-alone c.args.world c.record-finish.result.finish.world c.now-first.new.self not.same;
         none = not.none;
+        unclosed = not.unclosed;
         because = why-not _ _ _ _ not.because;
         wrote = settings-alone written settings (written c.args.tape.writer.sink) base after.writer head stood;
       })
@@ -40,7 +42,9 @@ pub returns-in-Err-clause-recorded : goal.returns-in-Err-clause-recorded
 returns-in-Err-clause-recorded g c =
     inl (rw (c.unrecorded.ensures, c.idle.ensures) (record {
       first = c.now-first.result;
+      same = refl;
       none = refl;
+      unclosed = refl;
       because = why-failed c.in-Err.status _ _ c.in-Err.ensures.failed;
       wrote = rw c.booted-config.ensures.exact at c.in-Err.ensures.cut;
     }))
