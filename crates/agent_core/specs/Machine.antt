@@ -236,6 +236,20 @@ on_message S (Err fault) = says S (Dropped reasons.BadMessage ∷ [])
 on_message S (Ok message) =
     if passes S message then on_answer S message else on_link S (Says (said_in message)) (Some message)
 
+-- the entry that an answer settles, where it is an answer to its command
+abbrev pub settles : MessageParts → Option Row → Option Entry
+settles message None = None
+settles message (Some row) = if message.header.command == command_of row.1.kept.kind then Some row.1 else None
+
+-- the entry that a message would settle
+abbrev pub awaited_by : Ledger → MessageParts → Option Entry
+awaited_by S message =
+    if passes S message then settles message (table.find_number S.table S.peer.link.number message.header.hop S.moment) else None
+
+abbrev pub awaited : Ledger → Result MessageParts MessageFault → Option Entry
+awaited S (Err fault) = None
+awaited S (Ok message) = awaited_by S message
+
 -- ---- together
 
 abbrev pub drained : Ledger → Ledger

@@ -1,18 +1,25 @@
 //! The core: one step of the agent.
 
-ghost use Rattle.std.specs.Prelude.{◌≡◌, ◌≤◌, ◌++◌, [], ◌∷◌, List, IfOk, OnOk, OnErr, length, max};
+ghost use Rattle.std.specs.Prelude.{◌≡◌, ◌≤◌, ◌++◌, [], ◌∷◌, List, IfOk, IfSome, OnOk, OnErr, length, max, option_map, slice_get, ℕ, Ok, Some};
+ghost use Rattle.std.specs.Option.{option_copied};
 ghost use Rattle.agent_settings.specs.Config.{InLimits};
 ghost use Rattle.pending_table.specs.Table as table;
 ghost use Rattle.agent_core.specs.Places.{Event};
 ghost use Rattle.agent_core.specs.Places as places;
-ghost use Rattle.agent_core.specs.History.{outputs_after, past};
-ghost use Rattle.agent_core.specs.Standing.{StandsFor};
+ghost use Rattle.diameter_message.specs.Message.{read_message};
+ghost use Rattle.diameter_message.specs.View.{message_view};
+ghost use Rattle.agent_events.specs.declared.events.Input.TheVariants as inputs;
+ghost use Rattle.agent_core.specs.History.{outputs_after, past, place};
+ghost use Rattle.agent_core.specs.Standing.{StandsFor, entry_of};
+ghost use Rattle.agent_core.specs.Fits.{KeptFits};
 ghost use Rattle.agent_core.specs.Promise.{AreBytes, IsReal};
 
 use crate::ledger::Ledger;
 use agent_events::{Input, Outputs};
 use agent_settings::Config;
+use diameter_message::Message;
 use peer_machine::Phase;
+use pending_table::Entry;
 use std::alloc::Global;
 use std::hash::RandomState;
 use std::marker::Model;
@@ -107,6 +114,23 @@ impl Core {
         ensures rule { (H : List Event) → StandsFor self.now H → result ≡ places.begins (past self.now.config H) input.now }
     {
         matches!(input, Input::Up | Input::Ready) && self.ledger().may_begin()
+    }
+
+    /// The entry of the request that this message would answer, if it came at `moment`.
+    pub fn awaited(&self, moment: u64, message: &Message<'_>) -> Option<&Entry>
+        ensures rule { (H : List Event) (octets : List ℕ) → StandsFor self.now H → read_message octets ≡ Ok (message_view message.now)
+            → option_copied result ≡ option_map (entry_of (past self.now.config H))
+            (place self.now.config (past self.now.config H) (record { moment = moment; input = inputs.Message octets })).matched }
+        ensures client { (H : List Event) (octets : List ℕ) → StandsFor self.now H → read_message octets ≡ Ok (message_view message.now)
+            → IfSome (place self.now.config (past self.now.config H) (record { moment = moment; input = inputs.Message octets })).matched
+            (λ t. slice_get self.now.config.clients t.kept.client ≡ Some t.settings) }
+        ensures kept { IfSome result (λ entry. KeptFits self.now.config entry.now.kept) }
+    {
+        agent_settings::found_stands_at_place();
+        agent_settings::clients_are_in_limits();
+        session_carrier::fresh_sessions_are_short();
+        let ledger = &*self.ledger;
+        ledger.awaited(moment, message)
     }
 
     /// What was sent on the link since the last Drain.

@@ -1,6 +1,7 @@
 //! What a message of the link leads to.
 
-ghost use Rattle.std.specs.Prelude.{◌≡◌, ◌<◌, ◌+◌, ◌≤◌, ◌^◌, ◌&&◌, nat_lt, All, IfOk, IsSome, OnOk, OnErr, true};
+ghost use Rattle.std.specs.Prelude.{◌≡◌, ◌<◌, ◌+◌, ◌≤◌, ◌^◌, ◌&&◌, nat_lt, All, IfOk, IfSome, IsSome, OnOk, OnErr, true};
+ghost use Rattle.std.specs.Option.{option_copied};
 ghost use Rattle.diameter_message.specs.Message.{read_message};
 ghost use Rattle.diameter_message.specs.View.{message_view};
 ghost use Rattle.agent_settings.specs.Config.{InLimits};
@@ -154,6 +155,26 @@ impl Ledger {
                     Ok(Heard::Says(unmatched(alloc, header)?))
                 }
             }
+        }
+    }
+
+    /// The entry that this message would settle, if it came at this moment.
+    #[tactic(auto, using(crate::proofs::AwaitedLemmas::passes_later))]
+    pub(crate) fn awaited(&self, moment: u64, message: &Message<'_>) -> Option<&Entry>
+        requires { IsSteady self.now }
+        ensures entry { option_copied result ≡ machine.awaited_by (machine.at_moment self.now moment) (message_view message.now) }
+        ensures kept { IfSome result (λ entry. KeptFits self.now.config entry.now.kept) }
+    {
+        if !self.passes(message) {
+            return None;
+        }
+        let header = &message.header;
+        match self
+            .table
+            .find(self.peer.link(), header.hop, self.moment.max(moment))
+        {
+            Some(entry) if header.command == command_of(entry.kept.kind) => Some(entry),
+            _ => None,
         }
     }
 

@@ -30,6 +30,7 @@ use wire_devices::{
 
 const USAGE: &str = "\
 usage: agent replay < TRANSCRIPT
+       agent trace < TRANSCRIPT
        agent dynamic < TRANSCRIPT
        agent reverse < SCRIPT
        agent check < SETTINGS
@@ -49,7 +50,11 @@ replay reads a transcript: a line of settings, lines of clients, and lines of ev
 milliseconds. It prints what the agent sends for each event, after the number of its line, and at last how many
 replies, messages and drops there were.
 
-dynamic does the same with a book of sessions beside the agent: where the home server ends a session that is in the
+trace reads a transcript too, also one that is still being recorded. It prints each event and what the agent sends for it in
+the names of the RFCs, with every attribute and AVP, and why an answer of the home server was refused. Passwords and keys
+are hidden.
+
+dynamic does the same as replay with a book of sessions beside the agent: where the home server ends a session that is in the
 book, by an Abort-Session-Request, a Disconnect-Request goes to the session's access server. Its packets come in as
 lines 'MOMENT control ADDRESS PORT HEX', and at last the Disconnect-Requests are counted too.
 

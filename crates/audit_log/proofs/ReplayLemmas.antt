@@ -7,7 +7,8 @@ use Rattle.printed_lines.specs.Text.{is_drop, is_reply, is_send}
 use Rattle.transcript.specs.Kinds.{kind_of}
 use Rattle.transcript.specs.Reading.{At, Step, beginning, read_from, read_line, said_on, words_step}
 use Rattle.replay_command.specs.Replay.{replay_task}
-use Rattle.replay_command.specs.Run.{Stage, end_text, first, outputs_of, places_in, stage_after}
+use Rattle.transcript_runs.specs.Runs.{Stage, first, places_in, stage_after}
+use Rattle.replay_command.specs.Run.{end_text, outputs_of}
 use Rattle.journal.specs.Journal.{given_line}
 use Rattle.journal.specs.Limits.{IsShortTask}
 

@@ -7,7 +7,7 @@ use Rattle.command_line.specs.declared.command.Places.{Places}
 use Rattle.command_line.specs.declared.command.Places.TheVariants as places
 use Rattle.command_line.specs.declared.command.Places.TheVariants.{Record}
 use Rattle.command_line.specs.declared.command.TextCommand.{TextCommand}
-use Rattle.command_line.specs.declared.command.TextCommand.TheVariants.{Replay, Dynamic, Reverse, Check, Show, Generate, Measure}
+use Rattle.command_line.specs.declared.command.TextCommand.TheVariants.{Replay, Trace, Dynamic, Reverse, Check, Show, Generate, Measure}
 use Rattle.command_line.specs.declared.command.Command.{Command}
 use Rattle.command_line.specs.declared.command.Command.TheVariants.{Text, Run}
 
@@ -17,6 +17,7 @@ use Rattle.command_line.specs.declared.command.Command.TheVariants.{Text, Run}
 abbrev pub command_named : List ℕ → Option TextCommand
 command_named word =
     if bytes_eq word (codes "replay") then Some Replay
+    else if bytes_eq word (codes "trace") then Some Trace
     else if bytes_eq word (codes "dynamic") then Some Dynamic
     else if bytes_eq word (codes "reverse") then Some Reverse
     else if bytes_eq word (codes "check") then Some Check
@@ -114,6 +115,7 @@ pub record CanGenerate (count : ℕ) : Type 0 where
 
 abbrev pub IsSized : TextCommand → Type 0
 IsSized Replay = Unit {0}
+IsSized Trace = Unit {0}
 IsSized Dynamic = Unit {0}
 IsSized Reverse = Unit {0}
 IsSized Check = Unit {0}

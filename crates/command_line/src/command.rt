@@ -44,6 +44,8 @@ pub enum Places {
 #[derive(Clone, Copy)]
 pub enum TextCommand {
     Replay,
+    /// What a replay is about, in names.
+    Trace,
     /// A replay with a book of sessions beside the agent.
     Dynamic,
     /// A script of Diameter requests for a RADIUS server.
@@ -77,6 +79,7 @@ fn command_named(word: &str) -> Option<TextCommand>
 {
     match word {
         "replay" => Some(TextCommand::Replay),
+        "trace" => Some(TextCommand::Trace),
         "dynamic" => Some(TextCommand::Dynamic),
         "reverse" => Some(TextCommand::Reverse),
         "check" => Some(TextCommand::Check),

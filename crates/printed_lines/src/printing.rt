@@ -51,7 +51,7 @@ fn send_line(alloc: Global, line: u64, octets: &[u8]) -> Result<Octets, NoMemory
 }
 
 /// The name of a port.
-pub(crate) fn via_name(via: Via) -> &'static str
+pub fn via_name(via: Via) -> &'static str
     ensures { result.now ≡ text.via_name via }
 {
     match via {
@@ -81,7 +81,8 @@ fn reply_line(
     )
 }
 
-fn reason_name(reason: Reason) -> &'static str
+/// The name of a reason, without what stands behind it.
+pub fn reason_name(reason: Reason) -> &'static str
     ensures { result.now ≡ text.reason_name reason }
 {
     match reason {

@@ -98,7 +98,8 @@ fn packet_lines(alloc: Global, packet: &Packet<'_>) -> Result<Octets, NoMemory>
     Ok(Octets::from_vec(lines))
 }
 
-fn packet_fault_line(alloc: Global, fault: PacketFault) -> Result<Octets, NoMemory>
+/// The line of what is wrong with it.
+pub fn packet_fault_line(alloc: Global, fault: PacketFault) -> Result<Octets, NoMemory>
     ensures { IfOk result (λ line. line ≡ show.packet_fault_line fault) }
 {
     match fault {
@@ -128,7 +129,8 @@ fn avp_line(alloc: Global, avp: &Avp<'_>) -> Result<Octets, NoMemory>
     with_hex(format!(in alloc; "avp {code} {flags} {vendor} ")?, avp.body)
 }
 
-fn avp_fault_line(alloc: Global, fault: AvpFault) -> Result<Octets, NoMemory>
+/// The line of what is wrong with it.
+pub fn avp_fault_line(alloc: Global, fault: AvpFault) -> Result<Octets, NoMemory>
     ensures { IfOk result (λ line. line ≡ show.avp_fault_line fault) }
 {
     match fault {
@@ -174,7 +176,8 @@ fn message_lines(alloc: Global, message: &Message<'_>) -> Result<Octets, NoMemor
     Ok(Octets::from_vec(lines))
 }
 
-fn message_fault_line(alloc: Global, fault: MessageFault) -> Result<Octets, NoMemory>
+/// The line of what is wrong with it.
+pub fn message_fault_line(alloc: Global, fault: MessageFault) -> Result<Octets, NoMemory>
     ensures { IfOk result (λ line. line ≡ show.message_fault_line fault) }
 {
     match fault {

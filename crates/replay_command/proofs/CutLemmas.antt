@@ -11,7 +11,7 @@ use Rattle.transcript.specs.declared.line.Line.TheVariants as line
 use Rattle.transcript.proofs.CutLemmas as cuts
 use Rattle.transcript.proofs.CutLemmas.{IsNumberless, cut-from}
 use Rattle.replay_command.specs.Cuts.{LinkLinesCanBeCut, inputs_outputs, line_outputs}
-use Rattle.replay_command.specs.Run.{Running, Settings, Stage, event_at, first, follow, places_after}
+use Rattle.transcript_runs.specs.Runs.{Running, Settings, Stage, event_at, first, follow, places_after}
 
 -- ---- inputs that are followed in two pieces
 

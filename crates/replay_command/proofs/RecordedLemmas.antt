@@ -19,7 +19,8 @@ use Rattle.transcript.specs.declared.line.Line.{Line}
 use Rattle.transcript.specs.declared.line.Line.TheVariants as line
 use Rattle.transcript.proofs.FollowLemmas.{after-append, given_by-append}
 use Rattle.replay_command.specs.Recorded.{RecordsAreReplayed, numbered_lines, told_inputs}
-use Rattle.replay_command.specs.Run.{Running, Settings, Stage, end_text, event_at, first, follow, outputs_of, places_in, printed_for, printed_for_lines, stage_after, transcript_text}
+use Rattle.transcript_runs.specs.Runs.{Running, Settings, Stage, event_at, first, follow, places_in, stage_after}
+use Rattle.replay_command.specs.Run.{end_text, outputs_of, printed_for, printed_for_lines, transcript_text}
 
 -- ---- the settings
 

@@ -9,7 +9,7 @@ use Rattle.printed_lines.specs.EventText.{link_line}
 use Rattle.transcript.specs.Grammar.{IsHex, IsNumber}
 use Rattle.transcript.specs.Reading.{Said, beginning, read_from}
 use Rattle.transcript.specs.Told.{given_by}
-use Rattle.replay_command.specs.Run.{Running, Settings, Stage, event_at, first, follow, stage_after}
+use Rattle.transcript_runs.specs.Runs.{Running, Settings, Stage, event_at, first, follow, stage_after}
 use Rattle.transcript.specs.declared.line.Line.{Line}
 use Rattle.transcript.specs.declared.line.Line.TheVariants as line
 

@@ -1,7 +1,7 @@
+pub mod Counted
 pub mod Cuts
 pub mod GeneratorLaws
 pub mod Measured
 pub mod Recorded
 pub mod Replay
 pub mod Run
-pub mod Session

@@ -4,7 +4,8 @@ use Rattle.generated_logins.specs.Generator.{generated_lines}
 use Rattle.agent_status.specs.declared.status.Status.{Status}
 use Rattle.text_commands.specs.declared.following.TranscriptWork.{TranscriptWork}
 use Rattle.text_commands.specs.Tasks.{Closes}
-use Rattle.replay_command.specs.declared.session.Session.{Session}
+use Rattle.transcript_runs.specs.declared.session.Session.{Session}
+use Rattle.replay_command.specs.declared.counts.Counts.{Counts}
 use Rattle.replay_command.specs.Replay.{Replays, replay_task}
 
 -- the end line of the transcript's replay was written, or wasn't
@@ -12,7 +13,7 @@ abbrev pub MeasuresBy : Status → ℕ → ℕ → Option (List ℕ) → Option 
 MeasuresBy status count seed before now = Closes replay_task status (generated_lines count seed) before now
 
 -- of these lines the first were replayed, and the others are still to come
-pub record ReplaysOn (work : TranscriptWork Session) (lines left : List (List ℕ)) : Type 0 where
+pub record ReplaysOn (work : TranscriptWork (Session Counts)) (lines left : List (List ℕ)) : Type 0 where
   pub done : List (List ℕ)
   pub replays : Replays work done
   pub whole : lines ≡ done ++ left

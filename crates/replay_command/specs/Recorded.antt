@@ -12,7 +12,8 @@ use Rattle.printed_lines.specs.Text.{output_line}
 use Rattle.transcript.specs.Reading.{IsTranscript}
 use Rattle.transcript.specs.Records.{AreTellable, AreTellableSettings, lines_with, record_text}
 use Rattle.transcript.specs.declared.line.Line.{Line}
-use Rattle.replay_command.specs.Run.{Running, end_text, transcript_text}
+use Rattle.transcript_runs.specs.Runs.{Running}
+use Rattle.replay_command.specs.Run.{end_text, transcript_text}
 
 -- what is told of a history: the inputs that aren't idle, each at the greatest moment so far
 abbrev pub told_inputs : Config → List Event → List (ℕ × Input)

@@ -7,21 +7,22 @@ ghost use Rattle.text_commands.specs.Tasks.{EndsBy, EndsCounts, IsLinesEnd};
 ghost use Rattle.text_lines.specs.Streams.{most_octets};
 ghost use Rattle.text_lines.specs.Words.{lines_of};
 
-use crate::session::Session;
+use crate::counts::Counts;
 use agent_status::Status;
 use std::alloc::Global;
 use std::hash::RandomState;
 use text_commands::{TranscriptWork, follow_transcript};
+use transcript_runs::Session;
 use wire_core::{NoMemory, Sink, Source};
 
 /// A replay that is given the lines one by one.
-pub type Replaying = TranscriptWork<Session>;
+pub type Replaying = TranscriptWork<Session<Counts>>;
 
 /// A replay before the first line. `random` is for a table that hashes its keys.
 pub fn start_replay(alloc: Global, random: RandomState) -> Result<Replaying, NoMemory>
     ensures { IfOk result (λ replaying. Replays replaying []) }
 {
-    TranscriptWork::new(alloc, Session::new(random))
+    TranscriptWork::new(alloc, Session::new(random, Counts::none()))
 }
 
 /// Reads a transcript from the input, and prints what the agent sends for each of its events and the end line.
@@ -44,5 +45,5 @@ pub fn replay<S: Source, K: Sink>(
         → ¬ Rose (S.faults input.old) (S.faults input.new) → ¬ Rose (K.faults output.old) (K.faults output.new)
         → (result ≡ Status.Done) ⊎ (result ≡ Status.OutOfMemory) }
 {
-    follow_transcript(alloc, Session::new(random), input, output)
+    follow_transcript(alloc, Session::new(random, Counts::none()), input, output)
 }

@@ -14,8 +14,9 @@ use Rattle.text_commands.specs.Generated.{GeneratesBy, WriteCounts}
 use Rattle.text_commands.specs.Shown.{show_task}
 use Rattle.text_commands.specs.Tasks.{EndsBy, EndsCounts, IsLinesEnd, Task}
 use Rattle.text_commands.specs.WholeInput.{most_whole}
+use Rattle.trace_command.specs.Trace.{trace_task}
 use Rattle.command_line.specs.declared.command.TextCommand.{TextCommand}
-use Rattle.command_line.specs.declared.command.TextCommand.TheVariants.{Replay, Dynamic, Reverse, Check, Show, Generate, Measure}
+use Rattle.command_line.specs.declared.command.TextCommand.TheVariants.{Replay, Trace, Dynamic, Reverse, Check, Show, Generate, Measure}
 use Rattle.command_line.specs.declared.command.Command.{Command}
 use Rattle.command_line.specs.declared.command.Command.TheVariants.{Text, Run}
 
@@ -26,6 +27,7 @@ EndsOver told P = (input : List ℕ) → told ≡ Some input → P input
 -- What was taken of the input and what was written, by the status. What is generated needs no input.
 abbrev pub EndsAs : TextCommand → Status → Option (List ℕ) → Option (List ℕ) → Option (List ℕ) → Option (List ℕ) → Type 0
 EndsAs Replay status told left before now = EndsOver told (λ input. EndsBy replay_task status input left before now)
+EndsAs Trace status told left before now = EndsOver told (λ input. EndsBy trace_task status input left before now)
 EndsAs Dynamic status told left before now = EndsOver told (λ input. EndsBy dynamic_task status input left before now)
 EndsAs Reverse status told left before now = EndsOver told (λ input. EndsBy reverse_task status input left before now)
 EndsAs Check status told left before now = EndsOver told (λ input. ChecksBy status input left before now)
@@ -36,6 +38,7 @@ EndsAs (Measure count seed) status told left before now = MeasuresBy status coun
 -- the statuses with which a command that reads its input may end, whether the source tells it or not
 abbrev pub IsEndAs : TextCommand → Status → Type 0
 IsEndAs Replay status = IsLinesEnd status
+IsEndAs Trace status = IsLinesEnd status
 IsEndAs Dynamic status = IsLinesEnd status
 IsEndAs Reverse status = IsLinesEnd status
 IsEndAs Check status = IsCheckEnd status
@@ -46,6 +49,7 @@ IsEndAs (Measure count seed) status = Unit {0}
 -- the counts that rose, by the status: the ends and faults of the source, and the faults of the sink
 abbrev pub CountsAs : TextCommand → Status → ℕ → ℕ → ℕ → ℕ → ℕ → ℕ → Type 0
 CountsAs Replay status ends ends' reads reads' writes writes' = EndsCounts status ends ends' reads reads' writes writes'
+CountsAs Trace status ends ends' reads reads' writes writes' = EndsCounts status ends ends' reads reads' writes writes'
 CountsAs Dynamic status ends ends' reads reads' writes writes' = EndsCounts status ends ends' reads reads' writes writes'
 CountsAs Reverse status ends ends' reads reads' writes writes' = EndsCounts status ends ends' reads reads' writes writes'
 CountsAs Check status ends ends' reads reads' writes writes' = EndsCounts status ends ends' reads reads' writes writes'
@@ -56,6 +60,7 @@ CountsAs (Measure count seed) status ends ends' reads reads' writes writes' = Wr
 -- what is generated needs no input, and words of no command read none
 abbrev pub text_reads : TextCommand → Bool
 text_reads Replay = true
+text_reads Trace = true
 text_reads Dynamic = true
 text_reads Reverse = true
 text_reads Check = true
@@ -82,6 +87,7 @@ pub record SoundSettings (input : List ℕ) : Type 0 where
 -- the input is one that the command takes whole
 abbrev pub IsSound : TextCommand → List ℕ → Type 0
 IsSound Replay input = SoundLines replay_task input
+IsSound Trace input = SoundLines trace_task input
 IsSound Dynamic input = SoundLines dynamic_task input
 IsSound Reverse input = SoundLines reverse_task input
 IsSound Check input = SoundSettings input

@@ -14,6 +14,7 @@ use reverse_script::reverse;
 use std::alloc::Global;
 use std::hash::RandomState;
 use text_commands::{check, generate, show};
+use trace_command::trace;
 use wire_core::{Sink, Source};
 
 /// Runs a command that goes from text to text. `random` is for tables that hash their keys.
@@ -37,6 +38,7 @@ pub fn run_text<S: Source, K: Sink>(
 {
     match command {
         TextCommand::Replay => replay(alloc, random, input, output),
+        TextCommand::Trace => trace(alloc, random, input, output),
         TextCommand::Dynamic => dynamic(alloc, random, input, output),
         TextCommand::Reverse => reverse(alloc, input, output),
         TextCommand::Check => check(alloc, input, output),

@@ -33,14 +33,15 @@ use wire_core::{NoMemory, Octets};
 /// DIAMETER_BAD_ANSWER (RFC 6733, section 8.15).
 const BAD_ANSWER: u32 = 3;
 
-pub(crate) fn is_error(header: &Header) -> bool
+/// Whether flag E is set (RFC 6733, section 3).
+pub fn is_error(header: &Header) -> bool
     ensures { result ≡ specs.is_error header.now }
 {
     header.flags & ERROR != 0
 }
 
 /// The first Result-Code of four octets, else 0.
-pub(crate) fn result_code(list: &[Avp<'_>]) -> u32
+pub fn result_code(list: &[Avp<'_>]) -> u32
     ensures { result ≡ results.result_code (list_view list.now) }
 {
     first_number(list, RESULT_CODE).unwrap_or(0)

@@ -42,7 +42,7 @@ fn is_session_there(list: &[Avp<'_>], session: &[u8]) -> bool
 }
 
 /// Whether there is exactly one Session-Id, the request's.
-pub(crate) fn has_own_session(list: &[Avp<'_>], session: &[u8]) -> bool
+pub fn has_own_session(list: &[Avp<'_>], session: &[u8]) -> bool
     ensures { result ≡ specs.has_own_session session.now (list_view list.now) }
 {
     count(list, SESSION_ID) == 1 && is_session_there(list, session)
@@ -75,20 +75,22 @@ fn is_understood(avp: &Avp<'_>) -> bool
     }
 }
 
-fn is_unknown(avp: &Avp<'_>) -> bool
+/// Whether an AVP must be understood and isn't.
+pub fn is_unknown(avp: &Avp<'_>) -> bool
     ensures { result ≡ specs.is_unknown (avp_view avp.now) }
 {
     avp.mandatory && !is_understood(avp)
 }
 
-/// Whether an AVP must be understood and isn't.
+/// Whether there is such an AVP.
 pub(crate) fn has_unknown(list: &[Avp<'_>]) -> bool
     ensures { result ≡ specs.has_unknown (list_view list.now) }
 {
     list.iter().any(is_unknown)
 }
 
-pub(crate) fn is_group(avp: &Avp<'_>) -> bool
+/// Whether an AVP is a group of a tunnel's attributes (RFC 4005, section 7.1).
+pub fn is_group(avp: &Avp<'_>) -> bool
     ensures { result ≡ groups.is_group (avp_view avp.now) }
 {
     has_code(avp, TUNNELING)
@@ -108,7 +110,8 @@ fn is_key_among(octets: &[u8]) -> bool
     found
 }
 
-fn holds_key(avp: &Avp<'_>) -> bool
+/// Whether an AVP is a key, or a group that can be read and holds one.
+pub fn holds_key(avp: &Avp<'_>) -> bool
     ensures { result ≡ specs.holds_key (avp_view avp.now) }
 {
     is_key_avp(avp) || is_group(avp) && is_key_among(avp.body)
@@ -144,14 +147,14 @@ fn is_timeout(class: Class, avp: &Avp<'_>) -> bool
 }
 
 /// Whether this is a number of seconds for the reply, without four octets.
-pub(crate) fn is_bad_timeout(class: Class, avp: &Avp<'_>) -> bool
+pub fn is_bad_timeout(class: Class, avp: &Avp<'_>) -> bool
     ensures { result ≡ specs.is_bad_timeout class (avp_view avp.now) }
 {
     is_timeout(class, avp) && avp.body.len() != 4
 }
 
 /// Whether there are two EAP-Payloads, or there is none in a challenge.
-pub(crate) fn has_bad_payload(service: Service, class: Class, list: &[Avp<'_>]) -> bool
+pub fn has_bad_payload(service: Service, class: Class, list: &[Avp<'_>]) -> bool
     ensures { result ≡ specs.has_bad_payload service class (list_view list.now) }
 {
     match service {
@@ -164,7 +167,7 @@ pub(crate) fn has_bad_payload(service: Service, class: Class, list: &[Avp<'_>]) 
 }
 
 /// The class that a Result-Code alone gives.
-pub(crate) fn kind_of(code: u32) -> Class
+pub fn kind_of(code: u32) -> Class
     ensures { result ≡ specs.kind_of code }
 {
     if code == MULTI_ROUND {

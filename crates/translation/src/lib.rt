@@ -24,8 +24,11 @@ mod terminations;
 mod values;
 
 pub use acceptance::is_accepted;
-pub use access_answers::answer;
-pub use answer_reading::{fits_vendor, goes_back, is_key_avp};
+pub use access_answers::{answer, is_error, result_code};
+pub use answer_reading::{
+    fits_vendor, goes_back, has_bad_payload, has_own_session, holds_key, is_bad_timeout, is_group,
+    is_key_avp, is_unknown, kind_of,
+};
 pub use class::Class;
 pub use direction::{Direction, goes};
 pub use heads::{is_eap, put_auth_head};
@@ -35,7 +38,7 @@ pub use laws::{passes_find_the_faults, passes_give_the_pieces};
 pub use names::put_names;
 pub use proxies::proxy_states;
 pub use pushing::{Unfit, pass_over, push, push_fitting, push_value, takes_vendors};
-pub use replies::bare_reply;
+pub use replies::{bare_reply, carrier_value, is_too_long};
 pub use routes::{carried_class, carried_state, name_realm};
 pub use seen::Seen;
 pub use service::Service;

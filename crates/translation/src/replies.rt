@@ -1,11 +1,12 @@
 //! Packets that answer requests (RFC 2865, section 4; RFC 2866, section 4.2).
 
-ghost use Rattle.std.specs.Prelude.{◌≡◌, ◌≤◌, ◌&&◌, length, Some, is_none, IfOk};
+ghost use Rattle.std.specs.Prelude.{◌≡◌, ◌≤◌, ◌&&◌, length, false, not, Some, is_none, IfOk};
 ghost use Rattle.radius_packet.specs.Packet.{attributes_in, attributes_text};
 ghost use Rattle.session_carrier.specs.Session.{class_text, state_text};
 ghost use Rattle.translation.specs.AvpList.{list_view};
 ghost use Rattle.translation.specs.Replies as specs;
 ghost use Rattle.translation.specs.Reading as reading;
+ghost use Rattle.translation.specs.Answers as answers;
 ghost use Rattle.translation.specs.Attempts as attempts;
 
 use crate::answer_reading::first_identity;
@@ -90,8 +91,8 @@ fn state_value(alloc: Global, session: &[u8], list: &[Avp<'_>]) -> Result<Option
     short_state(alloc, host, realm, session)
 }
 
-/// What carries the session in a reply of this class.
-fn carrier_value(
+/// What carries the session in a reply of this class: none in a refusal, nor where the State of a challenge can't be made.
+pub fn carrier_value(
     alloc: Global,
     class: Class,
     session: &[u8],
@@ -139,4 +140,22 @@ pub(crate) fn reply(
         Ok(()) => Ok(Some(reply.finish(client.secret.as_slice()))),
         Err(Unfit) => Ok(None),
     }
+}
+
+/// Whether the reply of this class has more octets than a packet may have, with what is at fault left out.
+pub fn is_too_long(
+    alloc: Global,
+    service: Service,
+    class: Class,
+    client: &Client,
+    kept: &Kept,
+    list: &[Avp<'_>],
+) -> Result<bool, NoMemory>
+    requires session { length kept.now.session ≤ 244 }
+    requires whole { kept.now.proxy ≡ attributes_text (attributes_in kept.now.proxy) }
+    requires carrier { answers.is_stateless class kept.now (list_view list.now) ≡ false }
+    ensures { IfOk result (λ long. long ≡ not (specs.fits_packet (specs.reply_attributes service class kept.now (list_view list.now)))) }
+{
+    let reply = reply(alloc, service, class, client, kept, list, false)?;
+    Ok(reply.is_none())
 }

@@ -1,0 +1,26 @@
+//! The causes.
+
+/// Why an access server gets an Access-Reject that the home server didn't send, or no Accounting-Response.
+#[derive(Clone, Copy)]
+pub enum Cause {
+    /// The AVPs can't be read.
+    RottenAvps,
+    /// Flag E is set in an answer of accounting, with this Result-Code.
+    Error { result: u32 },
+    /// There isn't exactly one Session-Id, the request's.
+    OtherSession,
+    /// This AVP must be understood and isn't.
+    UnknownAvp { code: u32, vendor: Option<u32> },
+    /// This AVP is or holds a key, which the client doesn't get.
+    KeyRefused { code: u32 },
+    /// This AVP must become attributes, and its value can't.
+    BadValue { code: u32 },
+    /// There are two EAP-Payloads, or there is none in a challenge.
+    EapPayload,
+    /// The State of a challenge can't be made.
+    NoState,
+    /// The reply would have more than 4096 octets.
+    TooLong,
+    /// The record wasn't taken, with this Result-Code.
+    Refused { result: u32 },
+}

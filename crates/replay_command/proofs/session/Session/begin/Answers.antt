@@ -1,7 +1,0 @@
-use Rattle.std.proofs.Common.{Some, refl, sym}
-use Rattle.replay_command.proofs.SessionLemmas.{begin-at}
-use Rattle.replay_command.proofs.session.Session.begin.Goals as goal
-
-pub returns-in-Ok-clause-begins : goal.returns-in-Ok-clause-begins
-returns-in-Ok-clause-begins c = λ stage at.
-    begin-at c.args.self.now (record { random = c.args.self.now.random; config = c.take.new.self; core = Some c.in-Ok.core; counts = c.args.self.now.counts }) stage c.in-Some.config c.in-Ok.core at (sym c.in-Some.ensures.value) c.take.ensures.after refl refl c.in-Ok.ensures.config c.in-Ok.ensures.stands

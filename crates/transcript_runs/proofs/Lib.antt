@@ -1,0 +1,3 @@
+pub mod InputLemmas
+mod SessionLemmas
+mod StageLemmas
