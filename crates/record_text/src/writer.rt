@@ -18,10 +18,10 @@ use std::time::Duration;
 use std::{rt, thread};
 use wire_core::{NoMemory, Put, Sink};
 
-/// How long it pauses where no entry is there, in milliseconds.
+/// How long entries gather, in milliseconds.
 const REST: u64 = 20;
 
-/// The lines of so many entries are written at once: a write for each would cost the system more than the lines do.
+/// The lines of so many entries are written at once, which spares writes.
 const PIECE: usize = 64;
 
 /// What stood on a sink before the first entry, where the sink tells it. Contracts alone speak of it.

@@ -79,7 +79,7 @@ pub trait EntryWriter {
         ensures counts { Counts (PutFailed result) (faults self.old) (faults self.new) }
         ensures wrote { (base : Self.Base) (before : List Entry) → stands self.old base before → stands self.new base (before ++ entries.now) };
 
-    /// Pauses a short while, since no entry is there.
+    /// Pauses a short while, so that entries gather.
     fn rest(&mut self)
         ensures faults { faults self.new ≡ faults self.old }
         ensures rested { (base : Self.Base) (before : List Entry) → stands self.old base before → stands self.new base before };

@@ -28,8 +28,7 @@ pub struct RecorderEnd<E> {
     pub(crate) writer: E,
 }
 
-/// Takes what waits and writes it, or pauses where nothing does. It gives the room for further entries, and none after the
-/// last.
+/// Takes what waits, writes it, and pauses. It gives the room for further entries, and none after the last.
 fn record_once<R: Wait, E: EntryWriter>(
     rt: &R,
     turnstile: &Turnstile<Queue>,
@@ -44,7 +43,7 @@ fn record_once<R: Wait, E: EntryWriter>(
     let Given { entries, over } = ask(rt, turnstile, pass, Asked::Take { room });
     match first_moment(entries.as_slice()) {
         None if over => return None,
-        None => writer.rest(),
+        None => {}
         Some(moment) => {
             if writer.write(entries.as_slice()) == Put::Failed {
                 ask(rt, turnstile, pass, Asked::Stop { moment });
@@ -52,6 +51,8 @@ fn record_once<R: Wait, E: EntryWriter>(
             }
         }
     }
+    // Who takes again at once finds few entries, and delays those who put more.
+    writer.rest();
     Some(entries.cleared())
 }
 
