@@ -86,6 +86,8 @@ it is answered, and prints 'reply HEX', or 'none' after MILLIS milliseconds.
 exit statuses: 0 done, 1 other words, 2 settings with a fault, 3 a line that may not stand where it stands,
 4 the input failed, 5 the output failed, 6 no link, 7 a link that the home server refused, 8 no thread, 9 no memory,
 10 a socket failed, 11 too many links ended, 12 an input that is too long, 14 no random octets
+
+The manual is seqwira-agent(1), with seqwira-settings(5) and seqwira-transcript(5).
 ";
 
 /// The words after the program's name.

@@ -5,6 +5,7 @@ ghost use Rattle.wire_devices.specs.Dialling.{no_dials};
 
 use crate::devices::Dialer;
 use crate::streams::{TcpIn, TcpOut, ends_of};
+use crate::times::millis;
 use crate::waker::Waker;
 use std::io::ErrorKind;
 use std::marker::Model;
@@ -21,16 +22,21 @@ const SHORT_PAUSE: u64 = 100;
 
 const LONG_PAUSE: u64 = 8_000;
 
-/// Dials an IPv4 address and a port. It pauses after a dial that was refused: a tenth of a second at first, twice as long
-/// after each further one in a row, and at most 8 seconds.
+/// A link that lasts so long didn't end at once, in milliseconds.
+const LASTING: u64 = 10_000;
+
+/// Dials an IPv4 address and a port. It pauses after a dial that was refused, and before one that follows a link of less than
+/// 10 seconds: a tenth of a second at first, twice as long each further time in a row, and at most 8 seconds.
 #[derive(Drop)]
 pub struct TcpDialer<R> {
     rt: R,
     address: u32,
     port: u16,
     waker: Option<Waker>,
-    /// The pause after the next dial that is refused, in milliseconds.
+    /// The next pause, in milliseconds.
     pause: u64,
+    /// Where the last dial made a link, when it did, by the clock that never goes back.
+    made_at: Option<u64>,
     refusal: Option<ErrorKind>,
     faults: u64,
     row: u8,
@@ -59,6 +65,7 @@ impl<R> TcpDialer<R> {
             port,
             waker: None,
             pause: SHORT_PAUSE,
+            made_at: None,
             refusal: None,
             faults: 0,
             row: 0,
@@ -80,6 +87,34 @@ impl<R> TcpDialer<R> {
     }
 }
 
+impl<R: Wait + rt::Clock> TcpDialer<R> {
+    /// The clock that never goes back, in milliseconds, where it can be read.
+    fn moment(&self) -> Option<u64> {
+        self.rt.monotonic().ok().map(millis)
+    }
+
+    /// Pauses, and twice as long the next time.
+    fn hold_off(&mut self)
+        ensures { self.new ≡ self.old }
+    {
+        thread::sleep(&self.rt, Duration::from_millis(self.pause));
+        self.pause = self.pause.saturating_mul(2).min(LONG_PAUSE);
+    }
+
+    /// Pauses where the last link ended soon after it was made: who takes links and closes them isn't dialled without end.
+    fn await_next(&mut self)
+        ensures { self.new ≡ self.old }
+    {
+        let Some(made) = self.made_at.take() else {
+            return;
+        };
+        match self.moment() {
+            Some(now) if now.saturating_sub(made) < LASTING => self.hold_off(),
+            _ => self.pause = SHORT_PAUSE,
+        }
+    }
+}
+
 impl<R: Net<Listener = TcpListener, Stream = TcpStream> + Wait + rt::Clock + Copy> Dialer
     for TcpDialer<R> {
     type In = TcpIn;
@@ -91,10 +126,11 @@ impl<R: Net<Listener = TcpListener, Stream = TcpStream> + Wait + rt::Clock + Cop
     ghost made = { λ d. d.made };
 
     fn dial(&mut self) -> Option<(TcpIn, TcpOut<R>)> {
+        self.await_next();
         let waker = self.waker.as_ref().and_then(|waker| waker.another());
         match connect(self.rt, self.address, self.port, waker) {
             Ok((link_in, link_out)) => {
-                self.pause = SHORT_PAUSE;
+                self.made_at = self.moment();
                 self.refusal = None;
                 self.row = 0;
                 let number = self.made;
@@ -103,8 +139,7 @@ impl<R: Net<Listener = TcpListener, Stream = TcpStream> + Wait + rt::Clock + Cop
             }
             Err(error) => {
                 self.refusal = Some(error.kind());
-                thread::sleep(&self.rt, Duration::from_millis(self.pause));
-                self.pause = self.pause.saturating_mul(2).min(LONG_PAUSE);
+                self.hold_off();
                 self.faults = self.faults.saturating_add(1);
                 self.row = self.row.saturating_add(1).min(16);
                 None

@@ -97,6 +97,6 @@ impl<R: rt::Clock> Clock for SystemClock<R> {
 }
 
 /// Whole milliseconds, as far as they fit.
-fn millis(time: Duration) -> u64 {
+pub(crate) fn millis(time: Duration) -> u64 {
     u64::try_from(time.as_millis()).unwrap_or(u64::MAX)
 }
