@@ -26,10 +26,12 @@ SHARES = 256
 SEED = 0x52414449
 
 # `watch`: so long, in seconds, from one question to the next, and for the reply; so many in a row without one, or with one, until the
-# agent is out, or is back.
+# agent is out, or is back; and so many without one right after nobody answered, when agents find their home server again one after
+# another, each after up to 8 seconds.
 PAUSE = 2
 PATIENCE = 1
 STRIKES = 3
+STRIKES_THEN = 7
 
 SO_MARK = 36
 
@@ -129,7 +131,9 @@ def watch(agents, pins, service, secret):
         begun = time.monotonic()
         answered = asked_all(agents, service, secret)
         # How often in a row the agent was not what it is taken for.
-        against = {agent: against[agent] + 1 if answered and (agent in answered) != (agent in serving) else 0 for agent in agents}
+        against = {agent: against[agent] + 1 if (agent in answered) != (agent in serving) else 0 for agent in agents}
+        if not answered:
+            against = dict.fromkeys(agents, STRIKES - STRIKES_THEN)
         found = [agent for agent in agents if (agent in serving) != (against[agent] >= STRIKES)]
         if found and found != serving:
             serving, against = found, dict.fromkeys(agents, 0)
