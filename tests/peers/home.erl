@@ -1,4 +1,4 @@
-%% The Diameter home server of .ci/peers, on Erlang's own stack: NASREQ (RFC 4005), EAP (RFC 4072) and accounting, for the
+%% The Diameter home server of tests/peers/run, on Erlang's own stack: NASREQ (RFC 4005), EAP (RFC 4072) and accounting, for the
 %% one user nemo, whose password is arctangent.
 %%
 %%     erl -noinput -pa BEAMS -run home start ADDRESS PORT FOLDER GRAMMAR
