@@ -16,7 +16,7 @@ import xml.etree.ElementTree as tree
 
 # Names and names of values that the RFCs write as `trace` does, and others otherwise.
 SAME = [
-    {"framedappletalknetwork", "framedappletalknet"},
+    {"framedappletalknetwork", "framedappletalknet"}, {"wirelessieee80211", "wireless80211"},
     {"login", "loginuser"}, {"framed", "frameduser"}, {"callbacklogin", "callbackloginuser"}, {"nasprompt", "naspromptuser"},
     {"authorizeauthenticate", "authorizeandauthenticate"}, {"diametersuccess", "success"},
 ]
@@ -77,9 +77,9 @@ def traced(paths):
 
 def shown(field):
     """An attribute or AVP: its name, its code, the octets of its value, and what Wireshark says of them."""
-    said = re.match(r"AVP: (?:t=)?(.*?)\((\d+)\) l=\d+(?: f=\S+)?(?: (?:vnd=\S*))?(?: val=(.*))?$", field.get("showname"))
+    said = re.match(r"AVP: (?:t=)?(.*?)\((\d+)\) l=\d+(.*)$", field.get("showname"))
     octets = bytes.fromhex(field.get("value") or "")
-    return said[1], int(said[2]), octets, said[3] or ""
+    return said[1], int(said[2]), octets, said[3].partition(" val=")[2]
 
 
 def avps_in(field, depth):
