@@ -96,9 +96,11 @@ impl Core {
 
     /// The settings.
     pub fn config(&self) -> &Config
-        ensures { result.now ≡ self.now.config }
+        ensures value { result.now ≡ self.now.config }
+        ensures limits { InLimits result.now }
     {
-        &self.ledger().config
+        let ledger = &*self.ledger;
+        &ledger.config
     }
 
     /// Where the link to the home server stands.

@@ -31,6 +31,7 @@ use wire_devices::{
 const USAGE: &str = "\
 usage: agent replay < TRANSCRIPT
        agent trace < TRANSCRIPT
+       agent count MILLIS < TRANSCRIPT
        agent dynamic < TRANSCRIPT
        agent reverse < SCRIPT
        agent check < SETTINGS
@@ -53,6 +54,10 @@ replies, messages and drops there were.
 trace reads a transcript too, also one that is still being recorded. It prints each event and what the agent sends for it in
 the names of the RFCs, with every attribute and AVP, and why an answer of the home server was refused. Passwords and keys
 are hidden.
+
+count reads a transcript too, also one that is still being recorded, and prints counters of it in the text format of Prometheus: a
+block before each event that reaches one of the moments that lie MILLIS milliseconds apart from the first event on, 1000 to
+86400000, and one at the end.
 
 dynamic does the same as replay with a book of sessions beside the agent: where the home server ends a session that is in the
 book, by an Abort-Session-Request, a Disconnect-Request goes to the session's access server. Its packets come in as

@@ -1,2 +1,3 @@
-pub mod Causes
 pub mod CauseLaws
+pub mod CauseNames
+pub mod Causes

@@ -1,5 +1,8 @@
 //! The causes.
 
+ghost use Rattle.std.specs.Prelude.{◌≡◌};
+ghost use Rattle.answer_causes.specs.CauseNames.{cause_name, cause_number};
+
 /// Why an access server gets an Access-Reject that the home server didn't send, or no Accounting-Response.
 #[derive(Clone, Copy)]
 pub enum Cause {
@@ -23,4 +26,42 @@ pub enum Cause {
     TooLong,
     /// The record wasn't taken, with this Result-Code.
     Refused { result: u32 },
+}
+
+impl Cause {
+    /// Its number: 1 to 10 in order.
+    pub fn number(self) -> u32
+        ensures { result ≡ cause_number self }
+    {
+        match self {
+            Cause::RottenAvps => 1,
+            Cause::Error { .. } => 2,
+            Cause::OtherSession => 3,
+            Cause::UnknownAvp { .. } => 4,
+            Cause::KeyRefused { .. } => 5,
+            Cause::BadValue { .. } => 6,
+            Cause::EapPayload => 7,
+            Cause::NoState => 8,
+            Cause::TooLong => 9,
+            Cause::Refused { .. } => 10,
+        }
+    }
+
+    /// Its name, without what stands behind it.
+    pub fn name(self) -> &'static str
+        ensures { result.now ≡ cause_name self }
+    {
+        match self {
+            Cause::RottenAvps => "RottenAvps",
+            Cause::Error { .. } => "Error",
+            Cause::OtherSession => "OtherSession",
+            Cause::UnknownAvp { .. } => "UnknownAvp",
+            Cause::KeyRefused { .. } => "KeyRefused",
+            Cause::BadValue { .. } => "BadValue",
+            Cause::EapPayload => "EapPayload",
+            Cause::NoState => "NoState",
+            Cause::TooLong => "TooLong",
+            Cause::Refused { .. } => "Refused",
+        }
+    }
 }

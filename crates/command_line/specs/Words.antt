@@ -1,5 +1,5 @@
 -- The words of commands (profile).
-use Rattle.std.specs.Prelude.{ℕ, ◌^◌, ◌≤◌, ◌==◌, Bool, true, false, List, [], ◌∷◌, Option, Some, None, String, string_bytes, bytes_eq, codes, option_map, if◌then◌else◌}
+use Rattle.std.specs.Prelude.{ℕ, ◌^◌, ◌≤◌, ◌==◌, nat_le, Bool, true, false, List, [], ◌∷◌, Option, Some, None, String, string_bytes, bytes_eq, codes, option_map, if◌then◌else◌}
 use Rattle.std.specs.declared.alloc.Global.{Global}
 use Rattle.address_text.specs.Address.{address_in}
 use Rattle.text_lines.specs.Words.{◌>>=◌, number_word}
@@ -7,7 +7,7 @@ use Rattle.command_line.specs.declared.command.Places.{Places}
 use Rattle.command_line.specs.declared.command.Places.TheVariants as places
 use Rattle.command_line.specs.declared.command.Places.TheVariants.{Record}
 use Rattle.command_line.specs.declared.command.TextCommand.{TextCommand}
-use Rattle.command_line.specs.declared.command.TextCommand.TheVariants.{Replay, Trace, Dynamic, Reverse, Check, Show, Generate, Measure}
+use Rattle.command_line.specs.declared.command.TextCommand.TheVariants.{Replay, Trace, Count, Dynamic, Reverse, Check, Show, Generate, Measure}
 use Rattle.command_line.specs.declared.command.Command.{Command}
 use Rattle.command_line.specs.declared.command.Command.TheVariants.{Text, Run}
 
@@ -23,6 +23,16 @@ command_named word =
     else if bytes_eq word (codes "check") then Some Check
     else if bytes_eq word (codes "show") then Some Show
     else None
+
+-- the time between blocks of counters: a second to a day
+abbrev pub span_word : List ℕ → Option ℕ
+span_word word = number_word 86400000 word >>= (λ millis. if nat_le 1000 millis then Some millis else None)
+
+-- a word and a time
+abbrev pub counting_command : List ℕ → List ℕ → Option TextCommand
+counting_command word millis = do
+  millis ← span_word millis
+  if bytes_eq word (codes "count") then Some (Count millis) else None
 
 -- how many logins: 1 to 1,000,000
 abbrev pub count_word : List ℕ → Option ℕ
@@ -83,10 +93,11 @@ server_command word address auth acct peer port millis = do
 
 -- ---- all words
 
--- replay, dynamic, reverse, check, show, generate COUNT SEED, measure COUNT SEED, home ADDRESS PORT MILLIS,
+-- replay, trace, dynamic, reverse, check, show, count MILLIS, generate COUNT SEED, measure COUNT SEED, home ADDRESS PORT MILLIS,
 -- nas ADDRESS PORT MILLIS, or serve or record ADDRESS AUTH ACCT PEER PEERPORT MILLIS
 abbrev pub command_of : List (String Global) → Option Command
 command_of (word ∷ []) = option_map (λ c. Text c) (command_named (string_bytes word))
+command_of (word ∷ millis ∷ []) = option_map (λ c. Text c) (counting_command (string_bytes word) (string_bytes millis))
 command_of (word ∷ count ∷ seed ∷ []) =
     option_map (λ c. Text c) (sized_command (string_bytes word) (string_bytes count) (string_bytes seed))
 command_of (word ∷ address ∷ port ∷ millis ∷ []) =
@@ -116,6 +127,7 @@ pub record CanGenerate (count : ℕ) : Type 0 where
 abbrev pub IsSized : TextCommand → Type 0
 IsSized Replay = Unit {0}
 IsSized Trace = Unit {0}
+IsSized (Count millis) = Unit {0}
 IsSized Dynamic = Unit {0}
 IsSized Reverse = Unit {0}
 IsSized Check = Unit {0}

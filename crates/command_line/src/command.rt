@@ -3,7 +3,7 @@
 ghost use Rattle.std.specs.Prelude.{◌≡◌, IfSome};
 ghost use Rattle.text_lines.specs.Words.{number_word};
 ghost use Rattle.command_line.specs.declared.command.Command.{Command};
-ghost use Rattle.command_line.specs.Words.{IsSized, IsSizedCommand, command_named as named_by, command_of as command_of_words, command_with as made_by, count_word, millis_word, peer_at as peer_by, peer_command as peer_by_words, port_word, server_at as server_by, server_command as server_by_words, sized_command as sized_by};
+ghost use Rattle.command_line.specs.Words.{IsSized, IsSizedCommand, command_named as named_by, counting_command as counting_by, command_of as command_of_words, command_with as made_by, count_word, millis_word, peer_at as peer_by, peer_command as peer_by_words, port_word, server_at as server_by, server_command as server_by_words, sized_command as sized_by, span_word};
 
 use address_text::read_address;
 use text_lines::number_in;
@@ -46,6 +46,8 @@ pub enum TextCommand {
     Replay,
     /// What a replay is about, in names.
     Trace,
+    /// Counters of a replay, a block each so many milliseconds.
+    Count { millis: u64 },
     /// A replay with a book of sessions beside the agent.
     Dynamic,
     /// A script of Diameter requests for a RADIUS server.
@@ -68,6 +70,11 @@ pub enum Command {
 
 /// How many logins are generated at most.
 const MOST_LOGINS: u64 = 1_000_000;
+
+/// How many milliseconds lie between blocks of counters: a second to a day.
+const LEAST_SPAN: u64 = 1_000;
+
+const MOST_SPAN: u64 = 86_400_000;
 
 /// How many milliseconds a run takes at most.
 const MOST_MILLIS: u64 = 1 << 63;
@@ -128,6 +135,28 @@ fn sized_command(word: &str, count: &str, seed: &str) -> Option<TextCommand>
     let count = count_in(count)?;
     let seed = seed_in(seed)?;
     command_with(word, count, seed)
+}
+
+/// How many milliseconds between blocks this word asks for.
+fn span_in(word: &str) -> Option<u64>
+    ensures { result ≡ span_word word.now }
+{
+    match number_in(word.as_bytes(), MOST_SPAN) {
+        Some(millis) if millis >= LEAST_SPAN => Some(millis),
+        _ => None,
+    }
+}
+
+/// The command of these two words.
+fn counting_command(word: &str, millis: &str) -> Option<TextCommand>
+    ensures exact { result ≡ counting_by word.now millis.now }
+    ensures sized { IfSome result IsSized }
+{
+    let millis = span_in(millis)?;
+    match word {
+        "count" => Some(TextCommand::Count { millis }),
+        _ => None,
+    }
 }
 
 /// The port that this word is.
@@ -233,6 +262,7 @@ pub fn command_of(words: &[String]) -> Option<Command>
 {
     match words {
         [word] => command_named(word.as_str()).map(text),
+        [word, millis] => counting_command(word.as_str(), millis.as_str()).map(text),
         [word, count, seed] => {
             sized_command(word.as_str(), count.as_str(), seed.as_str()).map(text)
         }

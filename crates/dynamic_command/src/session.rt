@@ -274,11 +274,11 @@ impl BookSession {
 }
 
 impl Follower for BookSession {
-    ghost rule = { dynamic_rule };
+    ghost rule = { λ _. dynamic_rule };
 
     ghost followed = { HasFollowed };
 
-    fn reader(alloc: Global) -> Result<LineReader, NoMemory> {
+    fn reader(&self, alloc: Global) -> Result<LineReader, NoMemory> {
         LineReader::with_control(alloc)
     }
 
@@ -302,5 +302,5 @@ impl Follower for BookSession {
         }
     }
 
-    ghost empty = { refl };
+    ghost empty = { λ session. refl };
 }

@@ -25,7 +25,7 @@ const INDENT: usize = 4;
 
 /// The name of a packet by its code.
 #[tactic(auto, unfolding(crate::specs::NamedText::packet_name))]
-fn packet_name(alloc: Global, code: u8) -> Result<String, NoMemory>
+pub fn packet_name(alloc: Global, code: u8) -> Result<String, NoMemory>
     ensures { IfOk result (λ name. string_bytes name ≡ named.packet_name code (packet_named code)) }
 {
     match find_packet(code) {
@@ -80,7 +80,7 @@ fn direction(flags: u8) -> &'static str
 
 /// The name of a message by its command and its flags.
 #[tactic(auto, unfolding(crate::specs::NamedText::command_name))]
-fn command_name(alloc: Global, command: u32, flags: u8) -> Result<String, NoMemory>
+pub fn command_name(alloc: Global, command: u32, flags: u8) -> Result<String, NoMemory>
     ensures { IfOk result (λ name. string_bytes name ≡ named.command_name command flags (command_named command)) }
 {
     match find_command(command) {

@@ -11,3 +11,4 @@ mod values;
 
 pub use avp_lines::vendor_name;
 pub use events::{push_event, push_output};
+pub use headings::{command_name, packet_name};

@@ -1,5 +1,5 @@
 //! Tests of the crates of octets, packets and messages, by their public calls alone. What a packet or a message holds and
-//! which fault it has, `.ci/cases/shown-*.lines` shows, and how streams break, transcripts there do.
+//! which fault it has, `tests/cases/shown-*.lines` shows, and how streams break, transcripts there do.
 #![tactic(auto)]
 
 #[cfg(test)]

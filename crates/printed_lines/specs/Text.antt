@@ -66,22 +66,28 @@ fault_name frame.BadVersion = codes "BadVersion"
 fault_name frame.BadLength = codes "BadLength"
 fault_name frame.TooLong = codes "TooLong"
 
--- a cause's name, and a number or a fault's name where it has one
-abbrev pub cause_words : LinkCause → List (List ℕ)
-cause_words (link.Refused result) = codes "Refused" ∷ decimal result ∷ []
-cause_words (link.PeerLeft cause) = codes "PeerLeft" ∷ decimal cause ∷ []
-cause_words (link.Broken fault) = codes "Broken" ∷ fault_name fault ∷ []
-cause_words link.Ended = codes "Ended" ∷ []
-cause_words link.Watchdog = codes "Watchdog" ∷ []
-cause_words link.Stalled = codes "Stalled" ∷ []
-cause_words link.Left = codes "Left" ∷ []
+abbrev pub close_name : LinkCause → List ℕ
+close_name (link.Refused result) = codes "Refused"
+close_name (link.PeerLeft cause) = codes "PeerLeft"
+close_name (link.Broken fault) = codes "Broken"
+close_name link.Ended = codes "Ended"
+close_name link.Watchdog = codes "Watchdog"
+close_name link.Stalled = codes "Stalled"
+close_name link.Left = codes "Left"
+
+-- what stands after a cause's name: a number or a fault's name
+abbrev pub close_words : LinkCause → List (List ℕ)
+close_words (link.Refused result) = decimal result ∷ []
+close_words (link.PeerLeft cause) = decimal cause ∷ []
+close_words (link.Broken fault) = fault_name fault ∷ []
+close_words cause = []
 
 abbrev pub output_words : Output → List (List ℕ)
 output_words (Reply via address port octets) =
     codes "reply" ∷ via_name via ∷ address_text address ∷ decimal port ∷ hex_text octets ∷ []
 output_words (Send octets) = codes "send" ∷ hex_text octets ∷ []
 output_words (Dropped reason) = codes "drop" ∷ decimal (reason_number reason) ∷ reason_name reason ∷ reason_words reason
-output_words (Closed cause) = codes "close" ∷ cause_words cause
+output_words (Closed cause) = codes "close" ∷ close_name cause ∷ close_words cause
 
 -- words separated by one space, and with the octet 0a behind them
 abbrev pub line_of : List (List ℕ) → List ℕ

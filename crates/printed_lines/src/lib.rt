@@ -8,8 +8,8 @@ mod showing;
 
 pub use event_printing::print_event;
 pub use printing::{
-    print, print_control, print_drop, print_end, print_end_with_controls, push_digits, reason_name,
-    via_name, with_hex,
+    close_name, print, print_control, print_drop, print_end, print_end_with_controls, push_digits,
+    reason_name, via_name, with_hex,
 };
 pub use settings_printing::print_settings;
 pub use showing::{ShowFault, avp_fault_line, message_fault_line, packet_fault_line, show_line};

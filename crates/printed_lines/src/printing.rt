@@ -137,22 +137,36 @@ pub fn print_drop(alloc: Global, line: u64, number: u32, name: &str) -> Result<O
     Ok(Octets::from_vec(text.into_bytes()))
 }
 
-/// The words of a link that broke.
-fn broken_words(fault: FrameFault) -> &'static str
-    ensures { result.now ≡ codes "Broken" ++ 32 ∷ text.fault_name fault }
+fn fault_name(fault: FrameFault) -> &'static str
+    ensures { result.now ≡ text.fault_name fault }
 {
     match fault {
-        FrameFault::BadVersion => "Broken BadVersion",
-        FrameFault::BadLength => "Broken BadLength",
-        FrameFault::TooLong => "Broken TooLong",
+        FrameFault::BadVersion => "BadVersion",
+        FrameFault::BadLength => "BadLength",
+        FrameFault::TooLong => "TooLong",
     }
 }
 
-/// The line of a link that was closed, with these words of its cause.
-fn cause_line(alloc: Global, line: u64, words: &str) -> Result<Octets, NoMemory>
-    ensures { IfOk result (λ o. o ≡ text.line_text (decimal line ∷ codes "close" ∷ words.now ∷ [])) }
+/// The name of a cause, without what stands behind it.
+pub fn close_name(cause: LinkCause) -> &'static str
+    ensures { result.now ≡ text.close_name cause }
 {
-    let text = format!(in alloc; "{line} close {words}\n")?;
+    match cause {
+        LinkCause::Refused { .. } => "Refused",
+        LinkCause::PeerLeft { .. } => "PeerLeft",
+        LinkCause::Broken { .. } => "Broken",
+        LinkCause::Ended => "Ended",
+        LinkCause::Watchdog => "Watchdog",
+        LinkCause::Stalled => "Stalled",
+        LinkCause::Left => "Left",
+    }
+}
+
+/// The line of a link that was closed, with its cause's name alone.
+fn name_line(alloc: Global, line: u64, name: &str) -> Result<Octets, NoMemory>
+    ensures { IfOk result (λ o. o ≡ text.line_text (decimal line ∷ codes "close" ∷ name.now ∷ [])) }
+{
+    let text = format!(in alloc; "{line} close {name}\n")?;
     Ok(Octets::from_vec(text.into_bytes()))
 }
 
@@ -164,18 +178,24 @@ fn code_line(alloc: Global, line: u64, name: &str, code: u32) -> Result<Octets, 
     Ok(Octets::from_vec(text.into_bytes()))
 }
 
+/// The line of a link that was closed, with its cause's name and its fault's.
+fn fault_line(alloc: Global, line: u64, name: &str, fault: &str) -> Result<Octets, NoMemory>
+    ensures { IfOk result (λ o. o ≡ text.line_text (decimal line ∷ codes "close" ∷ name.now ∷ fault.now ∷ [])) }
+{
+    let text = format!(in alloc; "{line} close {name} {fault}\n")?;
+    Ok(Octets::from_vec(text.into_bytes()))
+}
+
 /// The line of a link that was closed.
 fn close_line(alloc: Global, line: u64, cause: LinkCause) -> Result<Octets, NoMemory>
     ensures { IfOk result (λ o. o ≡ text.output_line line (Closed cause)) }
 {
+    let name = close_name(cause);
     match cause {
-        LinkCause::Refused { result: code } => code_line(alloc, line, "Refused", code),
-        LinkCause::PeerLeft { cause: code } => code_line(alloc, line, "PeerLeft", code),
-        LinkCause::Broken { fault } => cause_line(alloc, line, broken_words(fault)),
-        LinkCause::Ended => cause_line(alloc, line, "Ended"),
-        LinkCause::Watchdog => cause_line(alloc, line, "Watchdog"),
-        LinkCause::Stalled => cause_line(alloc, line, "Stalled"),
-        LinkCause::Left => cause_line(alloc, line, "Left"),
+        LinkCause::Refused { result: code } => code_line(alloc, line, name, code),
+        LinkCause::PeerLeft { cause: code } => code_line(alloc, line, name, code),
+        LinkCause::Broken { fault } => fault_line(alloc, line, name, fault_name(fault)),
+        _ => name_line(alloc, line, name),
     }
 }
 

@@ -1,5 +1,6 @@
 -- The counts of a replay.
 use Rattle.std.specs.Prelude.{◌≡◌, ◌+◌, ◌-◌, ◌^◌, List, min, count_by}
+use Rattle.agent_settings.specs.declared.config.Config.{Config}
 use Rattle.agent_events.specs.declared.events.Output.{Output}
 use Rattle.agent_core.specs.Places.{Place}
 use Rattle.printed_lines.specs.Text.{is_reply, is_send, is_drop}
@@ -18,6 +19,6 @@ counted c outputs = record {
 abbrev pub counts_of : List Place → Counts
 counts_of ps = record { replies = outputs_of is_reply ps; sends = outputs_of is_send ps; drops = outputs_of is_drop ps }
 
--- they are counted
-abbrev pub AreCounted : Counts → List Place → Type 0
-AreCounted counts ps = counts ≡ counts_of ps
+-- they are counted, whatever the settings
+abbrev pub AreCounted : Counts → Config → List Place → Type 0
+AreCounted counts config ps = counts ≡ counts_of ps

@@ -2,7 +2,7 @@
 use Rattle.std.specs.Prelude.{◌≡◌, ℕ, List, [], Option, Some}
 use Rattle.wire_core.specs.Sink.{Appends}
 use Rattle.transcript_runs.specs.Runs.{rule_of}
-use Rattle.replay_command.specs.Run.{counts_text, event_text, transcript_text}
+use Rattle.replay_command.specs.Run.{replay_telling, transcript_text}
 use Rattle.transcript_runs.specs.Sessions.{HasFollowed}
 use Rattle.transcript_runs.specs.declared.session.Session.{Session}
 use Rattle.replay_command.specs.Counted.{AreCounted}
@@ -16,7 +16,7 @@ use Rattle.transcript.specs.declared.line.Line.{Line}
 
 -- what the lines print, each followed after those before it
 abbrev pub replay_rule : Rule
-replay_rule = rule_of event_text counts_text
+replay_rule = rule_of replay_telling
 
 -- a transcript's lines, and what they print
 abbrev pub replay_task : Task

@@ -8,7 +8,7 @@ use Rattle.agent_core.specs.Places.{Event, Place}
 use Rattle.agent_core.specs.History.{place}
 use Rattle.printed_lines.specs.Text.{end_line, is_drop, is_reply, is_send, output_line}
 use Rattle.transcript.specs.declared.line.Line.{Line}
-use Rattle.transcript_runs.specs.Runs.{Stage, first, inputs_told, line_told, lines_told, places_in, stage_after}
+use Rattle.transcript_runs.specs.Runs.{Stage, Telling, first, inputs_told, line_told, lines_told, places_in, stage_after}
 
 -- what goes out for an event behind these places, on the line with this number
 abbrev pub event_text : ℕ → Config → List Place → Event → List ℕ
@@ -34,6 +34,9 @@ counts_text ps = end_line (outputs_of is_reply ps) (outputs_of is_send ps) (outp
 
 abbrev pub end_text : Stage → List ℕ
 end_text stage = counts_text (places_in stage)
+
+abbrev pub replay_telling : Telling
+replay_telling = record { text = event_text; end = end_text }
 
 -- what a transcript of these lines prints
 abbrev pub transcript_text : List Line → List ℕ

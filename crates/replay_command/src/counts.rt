@@ -7,7 +7,7 @@ ghost use Rattle.wire_core.specs.Sink.{Appends, AppendsPrefix};
 ghost use Rattle.printed_lines.specs.Text.{output_line, is_reply as reply_test, is_send as send_test, is_drop as drop_test};
 ghost use Rattle.text_commands.specs.Transcripts.{IsFailure};
 ghost use Rattle.replay_command.specs.Counted.{AreCounted, counted, counts_of};
-ghost use Rattle.replay_command.specs.Run.{counts_text, event_text};
+ghost use Rattle.replay_command.specs.Run.{replay_telling};
 
 use agent_core::Core;
 use agent_events::{Input, Output};
@@ -131,9 +131,7 @@ impl Counts {
 }
 
 impl Teller for Counts {
-    ghost text = { event_text };
-
-    ghost end = { counts_text };
+    ghost telling = { λ _. replay_telling };
 
     ghost told = { AreCounted };
 
@@ -160,7 +158,7 @@ impl Teller for Counts {
         }
     }
 
-    fn close<K: Sink>(&self, alloc: Global, sink: &mut K) -> Status {
+    fn close<K: Sink>(&self, alloc: Global, _core: Option<&Core>, sink: &mut K) -> Status {
         let Ok(text) = print_end(alloc, self.replies, self.sends, self.drops) else {
             return Status::OutOfMemory;
         };

@@ -238,3 +238,12 @@ module _ {F : Type 0} (rule : Rule) (followed : F → List Line → Type 0) wher
       (takes-on lines octets said new g has, (text, adds-text rule lines octets said g.next text g.says adds, wrote))
   works (Err status) lines octets said new before now g (failure, (text, adds, part)) =
       failed rule status lines octets text before now failure (adds-text rule lines octets said g.next text g.says adds) part
+
+  -- the same where the rule is the follower's, and stays
+  pub works-as : (rules : F → Rule) (r : Result Unit Status) (lines : List (List ℕ)) (octets : List ℕ) (said : Line) (new : TranscriptWork F) (before now : Option (List ℕ))
+      → (g : Goes lines octets said new.reader) → rules new.follower ≡ rule
+      → FollowsLine rule (λ ls. followed new.follower ls) r (read_from (beginning rule.controls) lines).lines said before now
+      → Works (transcript_task rule) (λ ls. Takes (rules new.follower) followed new ls) r lines octets before now
+  works-as rules r lines octets said new before now g same follows =
+      let P : Rule → Type 0 = λ by. Works (transcript_task rule) (λ ls. Takes by followed new ls) r lines octets before now in
+      subst P (sym same) (works r lines octets said new before now g follows)

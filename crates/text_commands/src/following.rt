@@ -23,32 +23,33 @@ use wire_core::{NoMemory, Sink, Source};
 /// What follows the lines of a transcript, one after another, and prints what each of them gives.
 pub trait Follower {
     /// Whether control lines may stand, what the lines print, and what stands after all of them.
-    ghost rule: { Rule };
+    ghost rule: { Self → Rule };
 
     /// It has followed these lines.
     ghost followed: { Self → List said.Line → Type 0 };
 
     /// A reader of the lines, before the first.
-    fn reader(alloc: Global) -> Result<LineReader, NoMemory>
-        ensures { IfOk result (λ reader. IsReading reader (beginning rule.controls)) };
+    fn reader(&self, alloc: Global) -> Result<LineReader, NoMemory>
+        ensures { IfOk result (λ reader. IsReading reader (beginning (rule self.now).controls)) };
 
     /// Follows the next line, and prints what it gives.
     fn follow<K: Sink>(&mut self, alloc: Global, line: Line, sink: &mut K) -> Result<(), Status>
         requires { (lines : List said.Line) × followed self.old lines × CanFollow (told_by lines) line }
+        ensures same { rule self.new ≡ rule self.old }
         ensures follows { (lines : List said.Line) → followed self.old lines
-            → FollowsLine rule (λ ls. followed self.new ls) result lines line (K.written sink.old) (K.written sink.new) }
+            → FollowsLine (rule self.old) (λ ls. followed self.new ls) result lines line (K.written sink.old) (K.written sink.new) }
         ensures fault { result ≡ Err Status.WriteFault → Rose (K.faults sink.old) (K.faults sink.new) }
         ensures faults_stay { K.faults sink.old ≤ K.faults sink.new };
 
     /// Prints what stands after all lines.
     fn close<K: Sink>(&self, alloc: Global, sink: &mut K) -> Status
         ensures closes { (lines : List said.Line) → followed self.now lines
-            → ClosesWith result (rule.close lines) (K.written sink.old) (K.written sink.new) }
+            → ClosesWith result ((rule self.now).close lines) (K.written sink.old) (K.written sink.new) }
         ensures fault { result ≡ Status.WriteFault → Rose (K.faults sink.old) (K.faults sink.new) }
         ensures faults_stay { K.faults sink.old ≤ K.faults sink.new };
 
     /// No lines print nothing.
-    ghost empty: { rule.text [] ≡ [] };
+    ghost empty: { (follower : Self) → (rule follower).text [] ≡ [] };
 }
 
 /// A reader of a transcript's lines, and what follows them.
@@ -62,10 +63,11 @@ impl<F: Follower + Drop> TranscriptWork<F> {
     /// Before the first line.
     pub fn new(alloc: Global, follower: F) -> Result<TranscriptWork<F>, NoMemory>
         requires { F.followed follower [] }
-        ensures { IfOk result (λ work. Takes F.rule F.followed work []) }
+        ensures first { IfOk result (λ work. Takes (F.rule follower) F.followed work []) }
+        ensures follower { IfOk result (λ work. work.follower ≡ follower) }
     {
         Ok(TranscriptWork {
-            reader: F::reader(alloc)?,
+            reader: follower.reader(alloc)?,
             follower,
         })
     }
@@ -84,9 +86,9 @@ fn line_status(fault: LineFault) -> Status
 }
 
 impl<F: Follower> Work for TranscriptWork<F> {
-    ghost task = { λ _. transcript_task F.rule };
+    ghost task = { λ work. transcript_task (F.rule work.follower) };
 
-    ghost took = { Takes F.rule F.followed };
+    ghost took = { λ work lines. Takes (F.rule work.follower) F.followed work lines };
 
     fn take<K: Sink>(&mut self, alloc: Global, line: &[u8], sink: &mut K) -> Result<(), Status> {
         transcript::lines_can_follow();
@@ -122,10 +124,10 @@ pub fn follow_transcript<F: Follower + Drop, S: Source, K: Sink>(
     ensures begun { result ≢ Status.Usage }
     ensures known { IsLinesEnd result }
     ensures ends { (X : List ℕ) → S.left input.old ≡ Some X
-        → EndsBy (transcript_task F.rule) result X (S.left input.new) (K.written output.old) (K.written output.new) }
+        → EndsBy (transcript_task (F.rule follower)) result X (S.left input.new) (K.written output.old) (K.written output.new) }
     ensures counts { EndsCounts result (S.ends input.old) (S.ends input.new) (S.faults input.old) (S.faults input.new)
         (K.faults output.old) (K.faults output.new) }
-    ensures complete { (X : List ℕ) → S.left input.old ≡ Some X → (transcript_task F.rule).stop (lines_of X) ≡ None
+    ensures complete { (X : List ℕ) → S.left input.old ≡ Some X → (transcript_task (F.rule follower)).stop (lines_of X) ≡ None
         → length X ≤ most_octets → ¬ Rose (S.faults input.old) (S.faults input.new) → ¬ Rose (K.faults output.old) (K.faults output.new)
         → (result ≡ Status.Done) ⊎ (result ≡ Status.OutOfMemory) }
 {

@@ -5,6 +5,7 @@ use Rattle.agent_config.specs.Settings.{settings_in}
 use Rattle.agent_status.specs.declared.status.Status.{Status}
 use Rattle.text_lines.specs.Streams.{most_octets}
 use Rattle.text_lines.specs.Words.{lines_of}
+use Rattle.count_command.specs.Count.{count_task}
 use Rattle.dynamic_command.specs.Dynamic.{dynamic_task}
 use Rattle.replay_command.specs.Measured.{MeasuresBy}
 use Rattle.replay_command.specs.Replay.{replay_task}
@@ -16,7 +17,7 @@ use Rattle.text_commands.specs.Tasks.{EndsBy, EndsCounts, IsLinesEnd, Task}
 use Rattle.text_commands.specs.WholeInput.{most_whole}
 use Rattle.trace_command.specs.Trace.{trace_task}
 use Rattle.command_line.specs.declared.command.TextCommand.{TextCommand}
-use Rattle.command_line.specs.declared.command.TextCommand.TheVariants.{Replay, Trace, Dynamic, Reverse, Check, Show, Generate, Measure}
+use Rattle.command_line.specs.declared.command.TextCommand.TheVariants.{Replay, Trace, Count, Dynamic, Reverse, Check, Show, Generate, Measure}
 use Rattle.command_line.specs.declared.command.Command.{Command}
 use Rattle.command_line.specs.declared.command.Command.TheVariants.{Text, Run}
 
@@ -28,6 +29,7 @@ EndsOver told P = (input : List ℕ) → told ≡ Some input → P input
 abbrev pub EndsAs : TextCommand → Status → Option (List ℕ) → Option (List ℕ) → Option (List ℕ) → Option (List ℕ) → Type 0
 EndsAs Replay status told left before now = EndsOver told (λ input. EndsBy replay_task status input left before now)
 EndsAs Trace status told left before now = EndsOver told (λ input. EndsBy trace_task status input left before now)
+EndsAs (Count millis) status told left before now = EndsOver told (λ input. EndsBy (count_task millis) status input left before now)
 EndsAs Dynamic status told left before now = EndsOver told (λ input. EndsBy dynamic_task status input left before now)
 EndsAs Reverse status told left before now = EndsOver told (λ input. EndsBy reverse_task status input left before now)
 EndsAs Check status told left before now = EndsOver told (λ input. ChecksBy status input left before now)
@@ -39,6 +41,7 @@ EndsAs (Measure count seed) status told left before now = MeasuresBy status coun
 abbrev pub IsEndAs : TextCommand → Status → Type 0
 IsEndAs Replay status = IsLinesEnd status
 IsEndAs Trace status = IsLinesEnd status
+IsEndAs (Count millis) status = IsLinesEnd status
 IsEndAs Dynamic status = IsLinesEnd status
 IsEndAs Reverse status = IsLinesEnd status
 IsEndAs Check status = IsCheckEnd status
@@ -50,6 +53,7 @@ IsEndAs (Measure count seed) status = Unit {0}
 abbrev pub CountsAs : TextCommand → Status → ℕ → ℕ → ℕ → ℕ → ℕ → ℕ → Type 0
 CountsAs Replay status ends ends' reads reads' writes writes' = EndsCounts status ends ends' reads reads' writes writes'
 CountsAs Trace status ends ends' reads reads' writes writes' = EndsCounts status ends ends' reads reads' writes writes'
+CountsAs (Count millis) status ends ends' reads reads' writes writes' = EndsCounts status ends ends' reads reads' writes writes'
 CountsAs Dynamic status ends ends' reads reads' writes writes' = EndsCounts status ends ends' reads reads' writes writes'
 CountsAs Reverse status ends ends' reads reads' writes writes' = EndsCounts status ends ends' reads reads' writes writes'
 CountsAs Check status ends ends' reads reads' writes writes' = EndsCounts status ends ends' reads reads' writes writes'
@@ -61,6 +65,7 @@ CountsAs (Measure count seed) status ends ends' reads reads' writes writes' = Wr
 abbrev pub text_reads : TextCommand → Bool
 text_reads Replay = true
 text_reads Trace = true
+text_reads (Count millis) = true
 text_reads Dynamic = true
 text_reads Reverse = true
 text_reads Check = true
@@ -88,6 +93,7 @@ pub record SoundSettings (input : List ℕ) : Type 0 where
 abbrev pub IsSound : TextCommand → List ℕ → Type 0
 IsSound Replay input = SoundLines replay_task input
 IsSound Trace input = SoundLines trace_task input
+IsSound (Count millis) input = SoundLines (count_task millis) input
 IsSound Dynamic input = SoundLines dynamic_task input
 IsSound Reverse input = SoundLines reverse_task input
 IsSound Check input = SoundSettings input

@@ -8,6 +8,7 @@ ghost use Rattle.text_runs.specs.TextEnds.{CountsAs, EndsAs, IsEndAs, IsSound, t
 
 use agent_status::Status;
 use command_line::TextCommand;
+use count_command::count;
 use dynamic_command::dynamic;
 use replay_command::{measure, replay};
 use reverse_script::reverse;
@@ -39,6 +40,7 @@ pub fn run_text<S: Source, K: Sink>(
     match command {
         TextCommand::Replay => replay(alloc, random, input, output),
         TextCommand::Trace => trace(alloc, random, input, output),
+        TextCommand::Count { millis } => count(alloc, random, millis, input, output),
         TextCommand::Dynamic => dynamic(alloc, random, input, output),
         TextCommand::Reverse => reverse(alloc, input, output),
         TextCommand::Check => check(alloc, input, output),

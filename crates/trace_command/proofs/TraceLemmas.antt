@@ -18,7 +18,7 @@ use Rattle.named_lines.specs.NamedText.{event_lines, output_lines}
 use Rattle.transcript_runs.specs.Sessions.{RunsAt, RunsOn}
 use Rattle.transcript_runs.proofs.InputLemmas.{outputs-are, runs-more}
 use Rattle.trace_command.specs.declared.tracer.Tracer.{Tracer}
-use Rattle.trace_command.specs.Trace.{HasTold, because, cause_at, trace_text}
+use Rattle.trace_command.specs.Trace.{HasTold, because, cause_at, trace_telling, trace_text}
 
 -- two texts behind another
 pub appended : {E : Type 0} (r : Result Unit E) (old mid new first second : List ℕ) → mid ≡ old ++ first → OnOk r (new ≡ mid ++ second) → OnOk r (new ≡ old ++ (first ++ second))
@@ -53,7 +53,7 @@ module _ (core : Ledger) (tracer : Tracer) (number : ℕ) (e : Event) (outputs :
 
   pub traces-on : PastGoesOn → (new : Ledger) (after : Tracer) (r : Result Unit Status) (before now : Option (List ℕ))
       → ((H : List Event) → StandsFor core H → StandsFor new (H ++ e ∷ [])) → new.config ≡ core.config → OnOk r (Appends before now text)
-      → (config : Config) (ps : List Place) → RunsAt HasTold core tracer config ps → OnOk r (RunsOn HasTold trace_text new after config ps number e before now)
+      → (config : Config) (ps : List Place) → RunsAt HasTold core tracer config ps → OnOk r (RunsOn HasTold trace_telling new after config ps number e before now)
   traces-on goes new after (Ok done) before now stands same wrote config ps runs =
       (runs-more HasTold goes core new tracer after config ps e stands same runs tt, subst (Appends before now) (text-is config ps runs) wrote)
   traces-on goes new after (Err status) before now stands same wrote config ps runs = tt

@@ -3,9 +3,9 @@
 ghost use Rattle.std.specs.Prelude.{◌≡◌, ◌++◌, IfOk, OnOk};
 ghost use Rattle.std.specs.List.{flat_map};
 ghost use Rattle.named_lines.specs.NamedText.{event_lines, output_lines};
-ghost use Rattle.trace_command.specs.Trace.{HasTold, because, no_end, trace_text};
+ghost use Rattle.trace_command.specs.Trace.{HasTold, because, trace_telling};
 
-use crate::causes::{input_cause, push_because};
+use crate::causes::{cause_in, push_because};
 use agent_core::Core;
 use agent_events::{Input, Output};
 use agent_status::Status;
@@ -13,7 +13,7 @@ use answer_causes::Cause;
 use named_lines::{push_event, push_output};
 use std::alloc::Global;
 use text_commands::write_text;
-use transcript_runs::Teller;
+use transcript_runs::{Teller, answered};
 use wire_core::{NoMemory, Sink};
 
 /// Tells of each input in names.
@@ -54,9 +54,7 @@ fn traced(
 }
 
 impl Teller for Tracer {
-    ghost text = { trace_text };
-
-    ghost end = { no_end };
+    ghost telling = { λ _. trace_telling };
 
     ghost told = { HasTold };
 
@@ -70,9 +68,10 @@ impl Teller for Tracer {
         sink: &mut K,
     ) -> Result<(), Status> {
         agent_core::past_goes_on();
-        let Ok(cause) = input_cause(alloc, core, moment, input) else {
+        let Ok(answered) = answered(alloc, core, moment, input) else {
             return Err(Status::OutOfMemory);
         };
+        let cause = cause_in(answered);
         let Ok(outputs) = core.step(alloc, moment, input) else {
             return Err(Status::OutOfMemory);
         };
@@ -82,7 +81,7 @@ impl Teller for Tracer {
         }
     }
 
-    fn close<K: Sink>(&self, _alloc: Global, _sink: &mut K) -> Status {
+    fn close<K: Sink>(&self, _alloc: Global, _core: Option<&Core>, _sink: &mut K) -> Status {
         Status::Done
     }
 }

@@ -9,7 +9,7 @@ use Rattle.agent_core.specs.Standing.{StandsFor}
 use Rattle.agent_core.specs.Laws.{PastGoesOn}
 use Rattle.transcript_runs.specs.Sessions.{RunsAt}
 
-module _ {T : Type 0} (told : T → List Place → Type 0) where
+module _ {T : Type 0} (told : T → Config → List Place → Type 0) where
   -- what went out is what the rule gives
   pub outputs-are : (core : Ledger) (teller : T) (config : Config) (ps : List Place) (e : Event) (outputs : List Output)
       → ((H : List Event) → StandsFor core H → outputs ≡ outputs_after core.config H e) → RunsAt told core teller config ps
@@ -22,7 +22,7 @@ module _ {T : Type 0} (told : T → List Place → Type 0) where
   -- the core stands for the history with it
   pub runs-more : PastGoesOn → (core new : Ledger) (teller after : T) (config : Config) (ps : List Place) (e : Event)
       → ((H : List Event) → StandsFor core H → StandsFor new (H ++ e ∷ [])) → new.config ≡ core.config → RunsAt told core teller config ps
-      → told after (place config ps e ∷ ps) → RunsAt told new after config (place config ps e ∷ ps)
+      → told after config (place config ps e ∷ ps) → RunsAt told new after config (place config ps e ∷ ps)
   runs-more goes core new teller after config ps e stands same r has = record {
     history = r.history ++ e ∷ [];
     past_is = ap (λ (qs : List Place). place config qs e ∷ qs) r.past_is ∙ sym (goes config r.history e);

@@ -1,3 +1,4 @@
 pub mod InputLemmas
 mod SessionLemmas
 mod StageLemmas
+pub mod WhateverSettings

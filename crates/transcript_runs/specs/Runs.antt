@@ -57,6 +57,11 @@ told_of (Running config ps) = told.Begun
 
 -- ---- what is told
 
+-- of an event behind these places, on the line with this number, and behind all of them
+pub record Telling : Type 0 where
+  pub text : ℕ → Config → List Place → Event → List ℕ
+  pub end : Stage → List ℕ
+
 module _ (text : ℕ → Config → List Place → Event → List ℕ) where
   -- of inputs of one moment, on the line with this number
   abbrev pub inputs_told : ℕ → Config → List Place → ℕ → List Input → List ℕ
@@ -80,9 +85,9 @@ module _ (text : ℕ → Config → List Place → Event → List ℕ) where
   lines_told stage lines = given_by follow line_told stage lines
 
 -- what all lines give, each followed after those before it, and what stands behind them
-abbrev pub rule_of : (ℕ → Config → List Place → Event → List ℕ) → (List Place → List ℕ) → Rule
-rule_of text end = record {
+abbrev pub rule_of : Telling → Rule
+rule_of telling = record {
   controls = false;
-  text = λ lines. lines_told text first lines;
-  close = λ lines. end (places_in (stage_after first lines));
+  text = λ lines. lines_told telling.text first lines;
+  close = λ lines. telling.end (stage_after first lines);
 }

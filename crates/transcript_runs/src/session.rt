@@ -42,11 +42,12 @@ fn run_inputs<T: Teller, K: Sink>(
     inputs: &[Input],
     sink: &mut K,
 ) -> Result<(), Status>
+    ensures same { T.telling teller.new ≡ T.telling teller.old }
     ensures runs { (config : Config) (ps : List Place) → RunsAt T.told core.old teller.old config ps
         → OnOk result (RunsAt T.told core.new teller.new config (places_after config ps moment inputs.now)
-        × Appends (K.written sink.old) (K.written sink.new) (inputs_told T.text number config ps moment inputs.now)) }
+        × Appends (K.written sink.old) (K.written sink.new) (inputs_told (T.telling teller.old).text number config ps moment inputs.now)) }
     ensures part { (config : Config) (ps : List Place) → RunsAt T.told core.old teller.old config ps
-        → AppendsPrefix (K.written sink.old) (K.written sink.new) (inputs_told T.text number config ps moment inputs.now) }
+        → AppendsPrefix (K.written sink.old) (K.written sink.new) (inputs_told (T.telling teller.old).text number config ps moment inputs.now) }
     ensures fault { result ≡ Err Status.WriteFault → Rose (K.faults sink.old) (K.faults sink.new) }
     ensures failure { IfErr result IsFailure }
     ensures faults_stay { K.faults sink.old ≤ K.faults sink.new }
@@ -63,8 +64,9 @@ fn run_inputs<T: Teller, K: Sink>(
 impl<T: Teller> Session<T> {
     /// Before the first line, with what tells of the inputs. `random` is for a table that hashes its keys.
     pub fn new(random: RandomState, teller: T) -> Session<T>
-        requires { T.told teller [] }
-        ensures { HasFollowed T.told result [] }
+        requires { (config : Config) → T.told teller config [] }
+        ensures followed { HasFollowed T.told result [] }
+        ensures teller { result.teller ≡ teller }
     {
         Session {
             random,
@@ -76,7 +78,8 @@ impl<T: Teller> Session<T> {
 
     /// The settings that an agent line tells.
     fn settle(&mut self, config: Config)
-        ensures { (stage : Stage) (number : ℕ) → IsAt T.told self.old stage → IsAt T.told self.new (stage_on stage (line.Agent number config)) }
+        ensures teller { self.new.teller ≡ self.old.teller }
+        ensures settles { (stage : Stage) (number : ℕ) → IsAt T.told self.old stage → IsAt T.told self.new (stage_on stage (line.Agent number config)) }
     {
         if self.core.is_none() {
             self.config = Some(config);
@@ -86,6 +89,7 @@ impl<T: Teller> Session<T> {
     /// A further client of the settings.
     fn join(&mut self, client: Client) -> Result<(), Status>
         requires { IfSome self.old.config (λ config. find_address client.address config.clients ≡ None) }
+        ensures teller { self.new.teller ≡ self.old.teller }
         ensures joins { (stage : Stage) (number : ℕ) → IsAt T.told self.old stage
             → OnOk result (IsAt T.told self.new (stage_on stage (line.Client number client))) }
         ensures memory { IfErr result (λ status. status ≡ Status.OutOfMemory) }
@@ -96,6 +100,7 @@ impl<T: Teller> Session<T> {
     /// Makes the core at the first event.
     fn begin(&mut self, alloc: Global) -> Result<(), Status>
         requires { IfSome self.old.config InLimits }
+        ensures teller { self.new.teller ≡ self.old.teller }
         ensures begins { (stage : Stage) → IsAt T.told self.old stage → OnOk result (IsAt T.told self.new (begun stage)) }
         ensures memory { IfErr result (λ status. status ≡ Status.OutOfMemory) }
     {
@@ -120,10 +125,11 @@ impl<T: Teller> Session<T> {
         inputs: &[Input],
         sink: &mut K,
     ) -> Result<(), Status>
+        ensures same { T.telling self.new.teller ≡ T.telling self.old.teller }
         ensures runs { (stage : Stage) → IsAt T.told self.old (begun stage)
-            → OnOk result (Follows T.told T.text self.new stage (line.Event number moment inputs.now) (K.written sink.old) (K.written sink.new)) }
+            → OnOk result (Follows T.told (T.telling self.old.teller) self.new stage (line.Event number moment inputs.now) (K.written sink.old) (K.written sink.new)) }
         ensures part { (stage : Stage) → IsAt T.told self.old (begun stage)
-            → AppendsPrefix (K.written sink.old) (K.written sink.new) (line_told T.text stage (line.Event number moment inputs.now)) }
+            → AppendsPrefix (K.written sink.old) (K.written sink.new) (line_told (T.telling self.old.teller).text stage (line.Event number moment inputs.now)) }
         ensures fault { result ≡ Err Status.WriteFault → Rose (K.faults sink.old) (K.faults sink.new) }
         ensures failure { IfErr result IsFailure }
         ensures faults_stay { K.faults sink.old ≤ K.faults sink.new }
@@ -142,10 +148,11 @@ impl<T: Teller> Session<T> {
         sink: &mut K,
     ) -> Result<(), Status>
         requires { (stage : Stage) × IsAt T.told self.old stage × CanFollow (told_of stage) line }
+        ensures same { T.telling self.new.teller ≡ T.telling self.old.teller }
         ensures follows { (stage : Stage) → IsAt T.told self.old stage
-            → OnOk result (Follows T.told T.text self.new stage line (K.written sink.old) (K.written sink.new)) }
+            → OnOk result (Follows T.told (T.telling self.old.teller) self.new stage line (K.written sink.old) (K.written sink.new)) }
         ensures part { (stage : Stage) → IsAt T.told self.old stage
-            → AppendsPrefix (K.written sink.old) (K.written sink.new) (line_told T.text stage line) }
+            → AppendsPrefix (K.written sink.old) (K.written sink.new) (line_told (T.telling self.old.teller).text stage line) }
         ensures fault { result ≡ Err Status.WriteFault → Rose (K.faults sink.old) (K.faults sink.new) }
         ensures failure { IfErr result IsFailure }
         ensures faults_stay { K.faults sink.old ≤ K.faults sink.new }
@@ -170,11 +177,11 @@ impl<T: Teller> Session<T> {
 }
 
 impl<T: Teller> Follower for Session<T> {
-    ghost rule = { rule_of T.text T.end };
+    ghost rule = { λ session. rule_of (T.telling session.teller) };
 
     ghost followed = { HasFollowed T.told };
 
-    fn reader(alloc: Global) -> Result<LineReader, NoMemory> {
+    fn reader(&self, alloc: Global) -> Result<LineReader, NoMemory> {
         LineReader::new(alloc)
     }
 
@@ -183,8 +190,8 @@ impl<T: Teller> Follower for Session<T> {
     }
 
     fn close<K: Sink>(&self, alloc: Global, sink: &mut K) -> Status {
-        self.teller.close(alloc, sink)
+        self.teller.close(alloc, self.core.as_ref(), sink)
     }
 
-    ghost empty = { refl };
+    ghost empty = { λ session. refl };
 }

@@ -4,4 +4,4 @@ use Rattle.text_commands.proofs.following.TranscriptWorkWork.too_long.Goals as g
 
 pub returns : goal.returns
 returns g c = λ lines octets takes long.
-    rw c.line_status.ensures (bad-line g.F.Follower.rule c.too_long.result lines octets takes.sound (c.too_long.ensures _ takes.reads octets (omega (arith, long))))
+    rw c.line_status.ensures (bad-line (g.F.Follower.rule c.args.self.now.follower) c.too_long.result lines octets takes.sound (c.too_long.ensures _ takes.reads octets (omega (arith, long))))

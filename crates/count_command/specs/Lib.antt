@@ -1,0 +1,4 @@
+pub mod Block
+pub mod Count
+pub mod Hits
+pub mod Tally
