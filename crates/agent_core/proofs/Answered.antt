@@ -15,7 +15,7 @@ use Rattle.agent_events.specs.declared.events.Output.TheVariants.{Send}
 use Rattle.agent_core.specs.declared.ledger.Ledger.{Ledger}
 use Rattle.agent_core.specs.Places.{Place, Taking, takings, with_taking, match_of, reply_in, is_at, end_by, ends, live, waiting, link, is_sent, header_of}
 use Rattle.agent_core.specs.History.{reply_outputs, outcome_outputs}
-use Rattle.agent_core.specs.Machine.{count_of, place_of}
+use Rattle.agent_core.specs.Machine.{count_of, reply_key}
 use Rattle.agent_core.specs.Standing.{StandsAt, row_of, entry_of}
 use Rattle.agent_core.proofs.Orders.{Ascending}
 use Rattle.agent_core.proofs.Lists.{AllByRecursion-filter, AllByRecursion-weaken, filter-alike, find-filter, find-true}
@@ -110,9 +110,9 @@ outcome-by test key b None (Some octets) is = ap (λ c. 0 + cond c 1 0) (is octe
 outcome-by test key b (Some reply) (Some octets) is = ap (λ c. 0 + cond c 1 0) (is octets refl) ∙ add-none b
 
 -- where the reply goes
-place-by : (e : Entry) (key : Key) (reply follow : Option (List ℕ)) → e.via ≡ key.via → e.address ≡ key.address → e.port ≡ key.port → reply_outputs (place_of e) reply ++ option_to_list (option_map Send follow) ≡ reply_outputs key reply ++ option_to_list (option_map Send follow)
+place-by : (e : Entry) (key : Key) (reply follow : Option (List ℕ)) → e.via ≡ key.via → e.address ≡ key.address → e.port ≡ key.port → reply_outputs (reply_key e) reply ++ option_to_list (option_map Send follow) ≡ reply_outputs key reply ++ option_to_list (option_map Send follow)
 place-by e key None follow via address port = refl
 place-by e key (Some octets) follow via address port = rw (via, address, port) refl
 
-pub place-agrees : (ps : List Place) (t : Taking) (o : Outcome) → outcome_outputs (place_of (entry_of ps t)) o ≡ outcome_outputs t.key o
+pub place-agrees : (ps : List Place) (t : Taking) (o : Outcome) → outcome_outputs (reply_key (entry_of ps t)) o ≡ outcome_outputs t.key o
 place-agrees ps t o = place-by (entry_of ps t) t.key o.reply o.follow refl refl refl

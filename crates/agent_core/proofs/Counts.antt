@@ -12,7 +12,7 @@ use Rattle.diameter_avp.specs.Avps.{avps_text, readable_avps}
 use Rattle.diameter_message.specs.PlainAvps.{origin_avps}
 use Rattle.diameter_message.specs.declared.header.Header.{Header}
 use Rattle.diameter_message.specs.Message.{MessageParts, header_text, message_text, parts_of}
-use Rattle.diameter_message.specs.Retransmission.{sent_again}
+use Rattle.diameter_message.specs.Retransmission.{retransmission_header}
 use Rattle.peer_machine.specs.declared.LinkCause.{LinkCause}
 use Rattle.peer_machine.specs.declared.messages.Names.{Names}
 use Rattle.peer_machine.specs.declared.words.LinkState.{LinkState}
@@ -21,7 +21,7 @@ use Rattle.peer_machine.specs.declared.words.BaseRequest.TheVariants.{Capabiliti
 use Rattle.peer_machine.specs.declared.words.Act.{Act}
 use Rattle.peer_machine.specs.declared.words.Act.TheVariants.{Nothing, Serve, Discard, Pass, Close, Request, Answer, AnswerAndClose}
 use Rattle.peer_machine.specs.Messages.{command_of, details, request_header, request_text, answer_header, answer_avps, answer_text}
-use Rattle.peer_machine.specs.Step.{sent, answered, is_request as asks}
+use Rattle.peer_machine.specs.Step.{sent, base_answer, is_request as asks}
 use Rattle.agent_events.specs.declared.events.Output.{Output}
 use Rattle.agent_events.specs.declared.events.Output.TheVariants.{Send, Closed, Dropped}
 use Rattle.agent_core.specs.Places.{Taking, header_of, is_sent, is_request, is_application_request, is_base_request, is_first_request}
@@ -148,7 +148,7 @@ base-wants h e = ap (λ b. b && is_base_command h.command) e
 first-wants : Wants is_first_request
 first-wants h e = ap (λ b. b && bit_and h.flags 16 == 0) e
 
-pub answered-none : (test : Header → Bool) → Wants test → (names : Names) (message : Option MessageParts) (code : ℕ) (error : Bool) → count-sent test (answered names message code error) ≡ 0
+pub answered-none : (test : Header → Bool) → Wants test → (names : Names) (message : Option MessageParts) (code : ℕ) (error : Bool) → count-sent test (base_answer names message code error) ≡ 0
 answered-none test wants names None code error = refl
 answered-none test wants names (Some m) code error =
     let octets = answer_text names m code error in one-sent test octets false (wants (header_of octets) (answer-request names m code error))
@@ -227,8 +227,8 @@ commands-apart k is =
 pub again-test : (test : Header → Bool) → LooksAt test → (octets : List ℕ) (hop : ℕ) → SentFits octets → test (header_of (again octets hop)) ≡ test (record (header_of octets) { flags = 208 })
 again-test test looks octets hop fits =
     let h = header_of octets in
-    text-test test looks (sent_again h hop) (parts_of octets).avps fits.whole.header.command
-    ∙ looks (sent_again h hop) (record h { flags = 208 }) (ap (λ f. bit_or f 16) fits.flags) refl
+    text-test test looks (retransmission_header h hop) (parts_of octets).avps fits.whole.header.command
+    ∙ looks (retransmission_header h hop) (record h { flags = 208 }) (ap (λ f. bit_or f 16) fits.flags) refl
 
 pub again-application : (t : Taking) → SentFits t.sent → AgainIs is_application_request true t
 again-application t fits = record { holds = λ hop. again-test is_application_request application-looks t.sent hop fits ∙ fits.application }

@@ -25,7 +25,7 @@ use Rattle.agent_core.specs.declared.ledger.Ledger.{Ledger}
 use Rattle.agent_core.specs.Verdict.{Request, verdict}
 use Rattle.agent_core.specs.Rooms.{refusal}
 use Rattle.agent_core.specs.History.{command_of, link_outputs, reply_outputs, outcome, outcome_outputs}
-use Rattle.agent_core.specs.Machine.{Next, at_moment, kept_waiting, kept_rooms, kept_numbers, kept_resends, row_again, on_look, on_admission, on_request, on_datagram, opens_then, output_for, on_link, on_client, on_found, on_answer, passes, on_message, place_of, on_input, next}
+use Rattle.agent_core.specs.Machine.{Next, at_moment, kept_waiting, kept_rooms, kept_numbers, kept_resends, row_again, on_look, on_admission, on_request, on_datagram, opens_then, output_for, on_link, on_client, on_found, on_answer, passes, on_message, reply_key, on_input, next}
 use Rattle.agent_core.specs.Standing.{IsSteady}
 use Rattle.agent_core.proofs.Limits.{limits}
 use Rattle.agent_core.proofs.Later.{steady-later}
@@ -109,7 +109,7 @@ outcome-few key o =
 
 client-few : (S : Ledger) (message : MessageParts) (e : Entry) (client : Option Client) → IsFew 2 (on_client S message e client)
 client-few S message e None = omega arith
-client-few S message e (Some client) = outcome-few (place_of e) (outcome e.kept.kind client e.kept message (kept_numbers S))
+client-few S message e (Some client) = outcome-few (reply_key e) (outcome e.kept.kind client e.kept message (kept_numbers S))
 
 pub unmatched-few : (b : Bool) → length (if b then [] else Dropped reasons.Unmatched ∷ []) ≤ 2
 unmatched-few true = omega arith

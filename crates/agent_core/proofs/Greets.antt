@@ -17,7 +17,7 @@ use Rattle.peer_machine.specs.declared.words.Event.{Event as LinkEvent}
 use Rattle.peer_machine.specs.declared.words.Event.TheVariants.{Opens, Serves, Says, Breaks, Ends, Ticks, Leaves}
 use Rattle.peer_machine.specs.declared.words.Act.{Act}
 use Rattle.peer_machine.specs.declared.words.Act.TheVariants.{Nothing, Serve, Discard, Pass, Close, Request, Answer, AnswerAndClose}
-use Rattle.peer_machine.specs.Rules.{act_on, on_end, on_said, open_said, greeting_said, closing_said, on_tick, on_leave, is_past, serving_tick, if_room, may_begin, noted, after}
+use Rattle.peer_machine.specs.Rules.{act_on, on_end, on_said, open_said, greeting_said, closing_said, on_tick, on_leave, is_past, serving_tick, if_room, may_begin, after_event, after}
 use Rattle.peer_machine.specs.Step.{sent}
 use Rattle.agent_core.specs.Machine.{begins_by}
 use Rattle.agent_core.proofs.Opening.{noted-phase}
@@ -213,11 +213,11 @@ greets-by l m (Request DisconnectPeer) e = absurd (cc)
 greets-by l m (Answer code error) e = inl e
 greets-by l m (AnswerAndClose code cause) e = absurd (cc)
 
-or-begun : (l : LinkState) (watchdog m : ℕ) (event : LinkEvent) (spare : Bool) → ((noted l m event).phase ≡ Greeting) ⊎ (is_ask (if_room spare (act_on l watchdog m event)) ≡ true) → (l.phase ≡ Greeting) ⊎ (begins_by l event ≡ true)
+or-begun : (l : LinkState) (watchdog m : ℕ) (event : LinkEvent) (spare : Bool) → ((after_event l m event).phase ≡ Greeting) ⊎ (is_ask (if_room spare (act_on l watchdog m event)) ≡ true) → (l.phase ≡ Greeting) ⊎ (begins_by l event ≡ true)
 or-begun l watchdog m event spare (inl still) = inl (sym (noted-phase l m event) ∙ still)
 or-begun l watchdog m event spare (inr ask) = inr (begins-asked l watchdog m event (asks-room spare (act_on l watchdog m event) ask))
 
 -- a link that greets did so before, or begins
-pub greets : (l : LinkState) (watchdog m : ℕ) (event : LinkEvent) (spare : Bool) → (after (noted l m event) m (if_room spare (act_on l watchdog m event))).phase ≡ Greeting → (l.phase ≡ Greeting) ⊎ (begins_by l event ≡ true)
+pub greets : (l : LinkState) (watchdog m : ℕ) (event : LinkEvent) (spare : Bool) → (after (after_event l m event) m (if_room spare (act_on l watchdog m event))).phase ≡ Greeting → (l.phase ≡ Greeting) ⊎ (begins_by l event ≡ true)
 greets l watchdog m event spare e =
-    or-begun l watchdog m event spare (greets-by (noted l m event) m (if_room spare (act_on l watchdog m event)) e)
+    or-begun l watchdog m event spare (greets-by (after_event l m event) m (if_room spare (act_on l watchdog m event)) e)

@@ -5,7 +5,7 @@ use Rattle.wire_core.specs.Numbers.{number, u24, u32}
 use Rattle.wire_core.proofs.NumberLemmas.{number-u24, number-u32}
 use Rattle.diameter_message.specs.declared.header.Header.{Header}
 use Rattle.diameter_message.specs.Message.{header_text, message_text, IsHeader, IsMessage, MessageParts}
-use Rattle.diameter_message.specs.Retransmission.{sent_again}
+use Rattle.diameter_message.specs.Retransmission.{retransmission_header}
 use Rattle.session_carrier.specs.Route.{RouteParts}
 use Rattle.session_carrier.specs.declared.kept.Kept.{Kept}
 use Rattle.session_carrier.specs.declared.kept.Kind2.{Kind2}
@@ -62,7 +62,7 @@ header_by-counts Start numbers = record { application = refl; base = refl; first
 header_by-counts Interim numbers = record { application = refl; base = refl; first_is = refl }
 header_by-counts Stop numbers = record { application = refl; base = refl; first_is = refl }
 
-pub sent_again-counts : (kind : Kind2) (numbers : Numbers) (hop : ℕ) → Counts false (sent_again (header_by kind numbers) hop)
+pub sent_again-counts : (kind : Kind2) (numbers : Numbers) (hop : ℕ) → Counts false (retransmission_header (header_by kind numbers) hop)
 sent_again-counts Access numbers hop = record { application = refl; base = refl; first_is = refl }
 sent_again-counts Eap numbers hop = record { application = refl; base = refl; first_is = refl }
 sent_again-counts Start numbers hop = record { application = refl; base = refl; first_is = refl }

@@ -26,7 +26,7 @@ use Rattle.agent_events.specs.declared.events.Input.TheVariants.{Datagram, Up, R
 use Rattle.agent_events.specs.declared.events.Output.TheVariants.{Send, Dropped}
 use Rattle.agent_core.specs.Settings.{names, end_number}
 use Rattle.agent_core.specs.Fits.{header_by}
-use Rattle.agent_core.specs.Places.{Place, Taking, now, total, serial, header_of, is_sent, is_request, sends}
+use Rattle.agent_core.specs.Places.{Place, Taking, now, total, serial, header_of, is_sent, is_request, send_count}
 use Rattle.agent_core.specs.Rooms.{has_spare}
 use Rattle.agent_core.specs.History.{at_input, past, peer, linked, link_act, link_output, link_outputs, again, resends, reply_outputs, outcome, next_numbers, taking_of}
 use Rattle.agent_core.specs.LawsOfLinks.{IfSent, HasOctets, AnswersInput, AnswersOnce, HomeRequestsAreAnsweredOnce, is_answer}
@@ -134,7 +134,7 @@ link-answers config ps m input event message is whole spoken =
     let o = link_output config ps m input event message in
     let fits = resent-fits config ps m input event message is in
     let one = one-at-most is_answer o.send in
-    let count : sends is_answer p ≡ count-sent is_answer o.send + 0 = linked-sends config ps m input event message is_answer false _ refl (AllByRecursion-weaken _ _ again-no-answer p.resent fits) in
+    let count : send_count is_answer p ≡ count-sent is_answer o.send + 0 = linked-sends config ps m input event message is_answer false _ refl (AllByRecursion-weaken _ _ again-no-answer p.resent fits) in
     record {
       once = omega arith;
       own =
@@ -148,11 +148,11 @@ link-answers config ps m input event message is whole spoken =
 
 unmatched-answers : (input : Input) (p : Place) (b : Bool) → p.outputs ≡ cond b [] (Dropped reasons.Unmatched ∷ []) → AnswersOnce input p
 unmatched-answers input p true is = record {
-  once = let none : sends is_answer p ≡ 0 = ap (count_by (is_sent is_answer)) is in omega arith;
+  once = let none : send_count is_answer p ≡ 0 = ap (count_by (is_sent is_answer)) is in omega arith;
   own = subst (AllByRecursion (IfSent (OwnAnswers input))) (sym is) tt;
 }
 unmatched-answers input p false is = record {
-  once = let none : sends is_answer p ≡ 0 = ap (count_by (is_sent is_answer)) is in omega arith;
+  once = let none : send_count is_answer p ≡ 0 = ap (count_by (is_sent is_answer)) is in omega arith;
   own = subst (AllByRecursion (IfSent (OwnAnswers input))) (sym is) (tt, tt);
 }
 

@@ -20,7 +20,7 @@ use Rattle.agent_settings.specs.declared.client.Client.{Client}
 use Rattle.translation.specs.Acceptance.{is_accepted}
 use Rattle.translation.specs.Answers as access
 use Rattle.translation.specs.Answers.{class_of, class_by_avps, class_that_fits, class_of_kind, is_error, is_of_other_session, has_refused_key, is_stateless, outcome_in}
-use Rattle.translation.specs.Reading.{has_own_session, has_unknown, has_fault, has_bad_payload, kind_of}
+use Rattle.translation.specs.Reading.{has_own_session, has_unknown, has_fault, has_bad_payload, result_class}
 use Rattle.translation.specs.Replies.{access_reply, bare_reply, reply_code, reply_attributes, fits_packet}
 use Rattle.translation.specs.declared.service.Service.{Service}
 use Rattle.translation.specs.declared.service.Service.TheVariants as services
@@ -66,23 +66,23 @@ second : {K : Type 0} (code : K → ℕ) (b : Bool) (x y : K) → code (cond b x
 second code true x y e other = absurd (omega arith)
 second code false x y e other = e
 
-kind-code : (service : Service) (client : Client) (kept : Kept) (avps : List AvpParts) → reply_code (class_of_kind (kind_of (result_code avps)) service client kept avps) ≡ 2 → reply_code (kind_of (result_code avps)) ≡ 2
+kind-code : (service : Service) (client : Client) (kept : Kept) (avps : List AvpParts) → reply_code (class_of_kind (result_class (result_code avps)) service client kept avps) ≡ 2 → reply_code (result_class (result_code avps)) ≡ 2
 kind-code service client kept avps e =
     let a = second reply_code (is_of_other_session kept avps) _ _ e refl in
     let b = second reply_code (has_unknown avps) _ _ a refl in
     let c = second reply_code (has_refused_key client avps) _ _ b refl in
-    let d = second reply_code (has_fault (kind_of (result_code avps)) avps) _ _ c refl in
-    let f = second reply_code (has_bad_payload service (kind_of (result_code avps)) avps) _ _ d refl in
-    second reply_code (is_stateless (kind_of (result_code avps)) kept avps) _ _ f refl
+    let d = second reply_code (has_fault (result_class (result_code avps)) avps) _ _ c refl in
+    let f = second reply_code (has_bad_payload service (result_class (result_code avps)) avps) _ _ d refl in
+    second reply_code (is_stateless (result_class (result_code avps)) kept avps) _ _ f refl
 
-by-avps : (service : Service) (client : Client) (kept : Kept) (header : Header) (avps : List AvpParts) → reply_code (class_by_avps service client kept header avps) ≡ 2 → reply_code (kind_of (result_code avps)) ≡ 2
+by-avps : (service : Service) (client : Client) (kept : Kept) (header : Header) (avps : List AvpParts) → reply_code (class_by_avps service client kept header avps) ≡ 2 → reply_code (result_class (result_code avps)) ≡ 2
 by-avps service client kept header avps =
-    elim (is_error header) as (λ b. is_error header ≡ b → reply_code (class_by_avps service client kept header avps) ≡ 2 → reply_code (kind_of (result_code avps)) ≡ 2) [
+    elim (is_error header) as (λ b. is_error header ≡ b → reply_code (class_by_avps service client kept header avps) ≡ 2 → reply_code (result_class (result_code avps)) ≡ 2) [
       | true ↦ (λ h. rw h (λ e. absurd (omega arith)))
       | false ↦ (λ h. rw h (kind-code service client kept avps))
     ] refl
 
-kind-success : (n : ℕ) → reply_code (kind_of n) ≡ 2 → is_success n ≡ true
+kind-success : (n : ℕ) → reply_code (result_class n) ≡ 2 → is_success n ≡ true
 kind-success n two = grind (arith, two)
 
 -- a reply of code 2 is that of a success

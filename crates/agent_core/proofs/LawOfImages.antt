@@ -6,7 +6,7 @@ use Rattle.std.proofs.lemmas.List.Elements.{filter-append}
 use Rattle.radius_packet.specs.declared.reasons.Reason.TheVariants as reasons
 use Rattle.diameter_message.specs.declared.header.Header.{Header}
 use Rattle.diameter_message.specs.Message.{MessageParts, IsHeader, message_text, header_text, parts_of}
-use Rattle.diameter_message.specs.Retransmission.{sent_again}
+use Rattle.diameter_message.specs.Retransmission.{retransmission_header}
 use Rattle.wire_core.specs.Numbers.{u24, u32}
 use Rattle.agent_settings.specs.declared.config.Config.{Config}
 use Rattle.pending_table.specs.declared.key.Key.{Key}
@@ -194,13 +194,13 @@ image config history e within =
 
 -- ---- sent again
 
-pub again-header : (octets : List ℕ) (k : ℕ) → k < 2 ^ 32 → SentFits octets → header_of (again octets k) ≡ sent_again (header_of octets) k
+pub again-header : (octets : List ℕ) (k : ℕ) → k < 2 ^ 32 → SentFits octets → header_of (again octets k) ≡ retransmission_header (header_of octets) k
 again-header octets k small fits =
     let h = header_of octets in
     let was = fits.whole.header in
     let flags : bit_or h.flags 16 ≡ 208 = ap (λ f. bit_or f 16) fits.flags in
-    let is : IsHeader (sent_again h k) = record { flags = omega arith; command = was.command; application = was.application; hop = small; end = was.end } in
-    header_of-text (sent_again h k) (parts_of octets).avps is
+    let is : IsHeader (retransmission_header h k) = record { flags = omega arith; command = was.command; application = was.application; hop = small; end = was.end } in
+    header_of-text (retransmission_header h k) (parts_of octets).avps is
 
 again-avps : (h : Header) (avps : List ℕ) → (parts_of (message_text h avps)).avps ≡ avps
 unfolding message_text header_text u24 u32
@@ -212,7 +212,7 @@ is-resent octets k small fits =
     record {
       copy = record {
         end = ap (λ (h : Header). h.end) header;
-        avps = again-avps (sent_again (header_of octets) k) (parts_of octets).avps;
+        avps = again-avps (retransmission_header (header_of octets) k) (parts_of octets).avps;
       };
       flag = ap (λ (h : Header). bit_and h.flags 16) header ∙ ap (λ f. bit_and (bit_or f 16) 16) fits.flags;
       hop = ap (λ (h : Header). h.hop) header;

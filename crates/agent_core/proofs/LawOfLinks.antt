@@ -21,7 +21,7 @@ use Rattle.peer_machine.specs.declared.words.Act.{Act}
 use Rattle.peer_machine.specs.declared.words.Act.TheVariants.{Nothing, Serve, Discard, Pass, Close, Request, Answer, AnswerAndClose}
 use Rattle.peer_machine.specs.declared.words.LinkState.{LinkState}
 use Rattle.peer_machine.specs.declared.words.BaseRequest.TheVariants.{DeviceWatchdog}
-use Rattle.peer_machine.specs.Rules.{act_on, if_room, noted, after}
+use Rattle.peer_machine.specs.Rules.{act_on, if_room, after_event, after}
 use Rattle.peer_machine.specs.Step.{link_at}
 use Rattle.peer_machine.specs.Reading.{said_in, is_application_command}
 use Rattle.agent_events.specs.declared.events.Input.{Input}
@@ -30,7 +30,7 @@ use Rattle.agent_events.specs.declared.events.Output.TheVariants.{Send, Dropped}
 use Rattle.agent_core.specs.Settings.{names, end_number}
 use Rattle.agent_core.specs.Fits.{header_by}
 use Rattle.agent_core.specs.Verdict.{Request as Asked}
-use Rattle.agent_core.specs.Places.{Event, Place, Taking, now, link, begins, is_serving, waiting, outbox, total, serial, header_of, is_sent, is_request, is_application_request, sends, sent_on_link}
+use Rattle.agent_core.specs.Places.{Event, Place, Taking, now, link, begins, is_serving, waiting, outbox, total, serial, header_of, is_sent, is_request, is_application_request, send_count, sent_on_link}
 use Rattle.agent_core.specs.Rooms.{rooms, has_spare}
 use Rattle.agent_core.specs.History.{at_input, past, peer, linked, link_act, link_output, answered, outcome, reply_outputs, next_numbers}
 use Rattle.agent_core.specs.Machine.{count_of}
@@ -74,15 +74,15 @@ hands-open config ps m octets message hands =
 -- the link isn't open there, and nothing is sent
 record IsDown (p : Place) : Type 0 where
   pub shut : is_open p.link.phase ≡ false
-  pub none : (test : Header → Bool) → sends test p ≡ 0
+  pub none : (test : Header → Bool) → send_count test p ≡ 0
 
 down-link : (config : Config) (ps : List Place) (m : ℕ) (input : Input) (event : LinkEvent) (message : Option MessageParts) → IsEventOf config ps input event message → is_open (link ps).phase ≡ false → begins ps input ≡ false → ((link ps).phase ≡ Greeting → grants input ≡ false) → IsDown (linked config ps m input event message)
 down-link config ps m input event message is shut old ungranted =
     let l = (peer config ps).link in
     let act = link_act config ps m input event in
     let idle = idle-shut l config.watchdog m event (has_spare config ps m input) shut (is.begun ∙ old) (λ greeting. is.granted ∙ ungranted greeting) in
-    let before : is_open (noted l m event).phase ≡ false = ap is_open (noted-phase l m event) ∙ shut in
-    let after_it : is_open (after (noted l m event) m act).phase ≡ false = idle-phase (noted l m event) m act idle before in
+    let before : is_open (after_event l m event).phase ≡ false = ap is_open (noted-phase l m event) ∙ shut in
+    let after_it : is_open (after (after_event l m event) m act).phase ≡ false = idle-phase (after_event l m event) m act idle before in
     let says = shut-says config ps m input event message act refl (opens-unless (link ps).phase _ (shut-serves _ after_it)) in
     let o = said_by config ps m event message act in
     record {
@@ -119,8 +119,8 @@ capabilities-wants h e = ap (λ b. b && h.command == 257) e
 -- the place of an Up that begins a link
 record Begins (p : Place) : Type 0 where
   pub shut : is_open p.link.phase ≡ false
-  pub any : sends is_any p ≡ 1
-  pub capabilities : sends is_capabilities_request p ≡ 1
+  pub any : send_count is_any p ≡ 1
+  pub capabilities : send_count is_capabilities_request p ≡ 1
 
 begins-up : (config : Config) (ps : List Place) (m : ℕ) → Ready config ps m → begins ps Up ≡ true → Begins (at_input config ps m Up)
 begins-up config ps m is begun =
@@ -153,8 +153,8 @@ Awaits ps = began ps ≡ Some Up → is_granted ps ≡ false → Greets ps
 
 record Counted (p : Place) (ps : List Place) (b : Bool) : Type 0 where
   pub shut : is_open p.link.phase ≡ false
-  pub any : cond b (sends is_any p) (sent_on_link is_any ps + sends is_any p) ≡ 1
-  pub capabilities : cond b (sends is_capabilities_request p) (sent_on_link is_capabilities_request ps + sends is_capabilities_request p) ≡ 1
+  pub any : cond b (send_count is_any p) (sent_on_link is_any ps + send_count is_any p) ≡ 1
+  pub capabilities : cond b (send_count is_capabilities_request p) (sent_on_link is_capabilities_request ps + send_count is_capabilities_request p) ≡ 1
 
 or-false : (a b : Bool) → (a || b) ≡ false → (a ≡ false) × (b ≡ false)
 or-false true b e = absurd (cc)
@@ -271,7 +271,7 @@ again-command test looks k other is t fits = record {
 -- of a link that ends the place leaves no other, and a Disconnect-Peer-Request ends it
 record Ends (ps : List Place) (input : Input) (p : Place) : Type 0 where
   pub stays : begins ps input ≡ false → is_ending (link ps).phase ≡ true → is_ending p.link.phase ≡ true
-  pub asked : (sends is_disconnect_request p ≡ 0) ⊎ (is_ending p.link.phase ≡ true)
+  pub asked : (send_count is_disconnect_request p ≡ 0) ⊎ (is_ending p.link.phase ≡ true)
 
 asked-ends : (l : LinkState) (m : ℕ) (act : Act) → (asks_for is_disconnect_request act ≡ false) ⊎ (is_ending (after l m act).phase ≡ true)
 asked-ends l m Nothing = inl refl
@@ -285,13 +285,13 @@ asked-ends l m (Request DisconnectPeer) = inr refl
 asked-ends l m (Answer code error) = inl refl
 asked-ends l m (AnswerAndClose code cause) = inl refl
 
-disconnects : (config : Config) (ps : List Place) (m : ℕ) (input : Input) (event : LinkEvent) (message : Option MessageParts) → Ready config ps m → sends is_disconnect_request (linked config ps m input event message) ≡ count_of (asks_for is_disconnect_request (link_act config ps m input event)) + 0
+disconnects : (config : Config) (ps : List Place) (m : ℕ) (input : Input) (event : LinkEvent) (message : Option MessageParts) → Ready config ps m → send_count is_disconnect_request (linked config ps m input event message) ≡ count_of (asks_for is_disconnect_request (link_act config ps m input event)) + 0
 disconnects config ps m input event message is =
     linked-sends config ps m input event message is_disconnect_request false _
     (own-by is_disconnect_request disconnect-looks disconnect-wants (names config) (link_at (peer config ps) m event) (end_number config (total ps)) message (link_act config ps m input event))
     (AllByRecursion-weaken _ _ (again-command is_disconnect_request disconnect-looks 282 refl (λ h. refl)) (linked config ps m input event message).resent (resent-fits config ps m input event message is))
 
-link-asked : (config : Config) (ps : List Place) (m : ℕ) (input : Input) (event : LinkEvent) (message : Option MessageParts) → Ready config ps m → (asks_for is_disconnect_request (link_act config ps m input event) ≡ false) ⊎ (is_ending (linked config ps m input event message).link.phase ≡ true) → (sends is_disconnect_request (linked config ps m input event message) ≡ 0) ⊎ (is_ending (linked config ps m input event message).link.phase ≡ true)
+link-asked : (config : Config) (ps : List Place) (m : ℕ) (input : Input) (event : LinkEvent) (message : Option MessageParts) → Ready config ps m → (asks_for is_disconnect_request (link_act config ps m input event) ≡ false) ⊎ (is_ending (linked config ps m input event message).link.phase ≡ true) → (send_count is_disconnect_request (linked config ps m input event message) ≡ 0) ⊎ (is_ending (linked config ps m input event message).link.phase ≡ true)
 link-asked config ps m input event message is (inl none) = inl (disconnects config ps m input event message is ∙ ap (λ b. count_of b + 0) none)
 link-asked config ps m input event message is (inr ending) = inr ending
 
@@ -332,9 +332,9 @@ ends-at config ps m input is = kind-by (Ends ps input) config ps m input (record
       let act = link_act config ps m input event in
       record {
         stays = λ old ending.
-            last-phase (noted l m event) m act (last-ending l config.watchdog m event (has_spare config ps m input) ending (spoken.begun ∙ old))
+            last-phase (after_event l m event) m act (last-ending l config.watchdog m event (has_spare config ps m input) ending (spoken.begun ∙ old))
             (ap is_ending (noted-phase l m event) ∙ ending);
-        asked = link-asked config ps m input event message is (asked-ends (noted l m event) m act);
+        asked = link-asked config ps m input event message is (asked-ends (after_event l m event) m act);
       };
   unmatched = λ octets message comes. record {
     stays = λ old ending. ap is_ending (heard-phase config ps m octets message comes.hands) ∙ ending;
@@ -351,11 +351,11 @@ ends-at config ps m input is = kind-by (Ends ps input) config ps m input (record
 abbrev HasEnded : List Place → Type 0
 HasEnded ps = 1 ≤ sent_on_link is_disconnect_request ps → is_ending (link ps).phase ≡ true
 
-asked-here : (p : Place) → (sends is_disconnect_request p ≡ 0) ⊎ (is_ending p.link.phase ≡ true) → 1 ≤ sends is_disconnect_request p → is_ending p.link.phase ≡ true
+asked-here : (p : Place) → (send_count is_disconnect_request p ≡ 0) ⊎ (is_ending p.link.phase ≡ true) → 1 ≤ send_count is_disconnect_request p → is_ending p.link.phase ≡ true
 asked-here p (inl none) some = absurd (omega arith)
 asked-here p (inr ending) some = ending
 
-ended-by : (p : Place) (ps : List Place) (b : Bool) (before : ℕ) → (b ≡ false → is_ending (link ps).phase ≡ true → is_ending p.link.phase ≡ true) → (sends is_disconnect_request p ≡ 0) ⊎ (is_ending p.link.phase ≡ true) → (1 ≤ before → is_ending (link ps).phase ≡ true) → 1 ≤ cond b (sends is_disconnect_request p) (before + sends is_disconnect_request p) → is_ending p.link.phase ≡ true
+ended-by : (p : Place) (ps : List Place) (b : Bool) (before : ℕ) → (b ≡ false → is_ending (link ps).phase ≡ true → is_ending p.link.phase ≡ true) → (send_count is_disconnect_request p ≡ 0) ⊎ (is_ending p.link.phase ≡ true) → (1 ≤ before → is_ending (link ps).phase ≡ true) → 1 ≤ cond b (send_count is_disconnect_request p) (before + send_count is_disconnect_request p) → is_ending p.link.phase ≡ true
 ended-by p ps true before stays asked ended some = asked-here p asked some
 ended-by p ps false zero stays asked ended some = asked-here p asked (omega arith)
 ended-by p ps false (suc n) stays asked ended some = stays refl (ended (omega arith))
@@ -383,7 +383,7 @@ last-at config ps m input ending old = kind-by (OnlyEnds is_request config ps) c
       let l = (peer config ps).link in
       let act = link_act config ps m input event in
       let last = last-ending l config.watchdog m event (has_spare config ps m input) ending (spoken.begun ∙ old) in
-      let phase = last-phase (noted l m event) m act last (ap is_ending (noted-phase l m event) ∙ ending) in
+      let phase = last-phase (after_event l m event) m act last (ap is_ending (noted-phase l m event) ∙ ending) in
       link-ends is_request config ps m input event message (ending-serves _ phase)
       (last-unasked is_request request-looks request-wants (names config) (link_at (peer config ps) m event) (end_number config (total ps)) message act last);
   unmatched = λ octets message comes. unmatched-ends _ (message.header.command == 275);

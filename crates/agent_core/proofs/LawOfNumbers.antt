@@ -29,7 +29,7 @@ use Rattle.agent_events.specs.declared.events.Output.TheVariants.{Reply, Send, D
 use Rattle.agent_core.specs.declared.ledger.Ledger.{Ledger}
 use Rattle.agent_core.specs.Settings.{names, end_number}
 use Rattle.agent_core.specs.Fits.{header_by}
-use Rattle.agent_core.specs.Places.{Place, Taking, now, link, begins, opens, waiting, used, base, total, serial, answer_to, header_of, is_sent, sends, sent_on_link, is_application_request, is_base_request, is_first_request}
+use Rattle.agent_core.specs.Places.{Place, Taking, now, link, begins, opens, waiting, used, base, total, serial, answer_to, header_of, is_sent, send_count, sent_on_link, is_application_request, is_base_request, is_first_request}
 use Rattle.agent_core.specs.History.{at_input, past, peer, repeated, taking_of, linked, link_act, link_after, link_output, link_outputs, resends, again, outcome, reply_outputs, next_numbers}
 use Rattle.agent_core.specs.Machine.{begins_by, count_of, opens_then}
 use Rattle.agent_core.specs.Standing.{StandsAt, IsRoomy}
@@ -100,10 +100,10 @@ none-in test xs none = empty (headers_in test xs) (headers-count test xs ∙ non
 link-count : (test : Header → Bool) (ps : List Place) → length (headers_on_link test ps) ≡ sent_on_link test ps
 link-count test [] = refl
 link-count test (p ∷ ps) =
-    let here : length (headers_in test p.outputs) ≡ sends test p = headers-count test p.outputs in
+    let here : length (headers_in test p.outputs) ≡ send_count test p = headers-count test p.outputs in
     let before : length (headers_on_link test ps) ≡ sent_on_link test ps = link-count test ps in
     length-append (cond (begins ps p.input) [] (headers_on_link test ps)) (headers_in test p.outputs)
-    ∙ elim (begins ps p.input) as (λ b. length (cond b [] (headers_on_link test ps)) + length (headers_in test p.outputs) ≡ cond b (sends test p) (sent_on_link test ps + sends test p)) [
+    ∙ elim (begins ps p.input) as (λ b. length (cond b [] (headers_on_link test ps)) + length (headers_in test p.outputs) ≡ cond b (send_count test p) (sent_on_link test ps + send_count test p)) [
       | true ↦ omega arith
       | false ↦ omega arith
     ]
@@ -111,7 +111,7 @@ link-count test (p ∷ ps) =
 total-count : (ps : List Place) → length (headers_so_far is_first_request ps) ≡ total ps
 total-count [] = refl
 total-count (p ∷ ps) =
-    let here : length (headers_in is_first_request p.outputs) ≡ sends is_first_request p = headers-count is_first_request p.outputs in
+    let here : length (headers_in is_first_request p.outputs) ≡ send_count is_first_request p = headers-count is_first_request p.outputs in
     let before : length (headers_so_far is_first_request ps) ≡ total ps = total-count ps in
     length-append (headers_so_far is_first_request ps) (headers_in is_first_request p.outputs) ∙ omega arith
 

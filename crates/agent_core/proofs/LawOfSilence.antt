@@ -18,11 +18,11 @@ use Rattle.peer_machine.specs.declared.words.Event.{Event as LinkEvent}
 use Rattle.peer_machine.specs.declared.words.Event.TheVariants.{Opens, Serves, Says, Breaks, Ends, Ticks, Leaves}
 use Rattle.peer_machine.specs.declared.words.Act.{Act}
 use Rattle.peer_machine.specs.declared.words.Act.TheVariants.{Nothing, Serve, Discard, Pass, Close, Request, Answer, AnswerAndClose}
-use Rattle.peer_machine.specs.Rules.{act_on, on_said, on_end, on_tick, on_leave, serving_tick, is_past, if_room, may_begin, noted, after}
+use Rattle.peer_machine.specs.Rules.{act_on, on_said, on_end, on_tick, on_leave, serving_tick, is_past, if_room, may_begin, after_event, after}
 use Rattle.peer_machine.specs.Step.{link_at}
 use Rattle.agent_events.specs.declared.events.Input.{Input}
 use Rattle.agent_events.specs.declared.events.Input.TheVariants.{Tick}
-use Rattle.agent_core.specs.Places.{Event, Place, now, link, begins, sends, serial}
+use Rattle.agent_core.specs.Places.{Event, Place, now, link, begins, send_count, serial}
 use Rattle.agent_core.specs.Rooms.{has_spare}
 use Rattle.agent_core.specs.History.{at_input, past, peer, link_act, next_numbers, outcome}
 use Rattle.agent_core.specs.Machine.{count_of}
@@ -62,8 +62,8 @@ tick-unasked l watchdog m Ticks e = absurd (cc)
 tick-unasked l watchdog m Leaves e = leave-unasked l.phase
 
 -- no other input sends a watchdog request
-unasked-at : (config : Config) (ps : List Place) (m : ℕ) (input : Input) → Ready config ps m → is_tick input ≡ false → sends is_watchdog_request (at_input config ps m input) ≡ 0
-unasked-at config ps m input is other = kind-by (λ p. sends is_watchdog_request p ≡ 0) config ps m input (record {
+unasked-at : (config : Config) (ps : List Place) (m : ℕ) (input : Input) → Ready config ps m → is_tick input ≡ false → send_count is_watchdog_request (at_input config ps m input) ≡ 0
+unasked-at config ps m input is other = kind-by (λ p. send_count is_watchdog_request p ≡ 0) config ps m input (record {
   stays = λ quiet unheard outputs silent. silent.0 is_watchdog_request;
   takes = λ quiet unheard request takes.
       ap (λ b. 0 + cond b 1 0)
@@ -160,7 +160,7 @@ served-at config ps m input old = kind-by (λ p. p.link.phase ≡ Serving → (l
   links = λ event message spoken serves.
       let l = (peer config ps).link in
       sym (noted-phase l m event)
-      ∙ served-after (noted l m event) m (link_act config ps m input event)
+      ∙ served-after (after_event l m event) m (link_act config ps m input event)
       (serve-room (has_spare config ps m input) (act_on l config.watchdog m event) (serve-act l config.watchdog m event (refreshes config ps input event message spoken ∙ old))) serves;
   unmatched = λ octets message comes serves. sym (heard-phase config ps m octets message comes.hands) ∙ serves;
   matched = λ octets message comes t found serves. sym (heard-phase config ps m octets message comes.hands) ∙ serves;
@@ -173,7 +173,7 @@ record TickLeaves (watchdog last m : ℕ) (asked : Option ℕ) (asks : Bool) : T
   pub unasked : asked ≡ None → ((last + watchdog ≤ m) × (asks ≡ true)) ⊎ ((m < last + watchdog) × (asks ≡ false))
   pub waits : (a : ℕ) → asked ≡ Some a → (m < a + watchdog) × (asks ≡ false)
 
-asks-of : (config : Config) (ps : List Place) (m : ℕ) (act : Act) → Ready config ps m → link_act config ps m Tick Ticks ≡ act → nat_le 1 (sends is_watchdog_request (at_input config ps m Tick)) ≡ nat_le 1 (count_of (asks_for is_watchdog_request act) + 0)
+asks-of : (config : Config) (ps : List Place) (m : ℕ) (act : Act) → Ready config ps m → link_act config ps m Tick Ticks ≡ act → nat_le 1 (send_count is_watchdog_request (at_input config ps m Tick)) ≡ nat_le 1 (count_of (asks_for is_watchdog_request act) + 0)
 asks-of config ps m act is acts =
     ap (nat_le 1) (watchdogs config ps m Tick Ticks None is ∙ ap (λ (a : Act). count_of (asks_for is_watchdog_request a) + 0) acts)
 
@@ -187,20 +187,20 @@ nothing-room : (spare : Bool) → if_room spare Nothing ≡ Nothing
 nothing-room true = refl
 nothing-room false = refl
 
-unasked-leaves : (config : Config) (ps : List Place) (m : ℕ) (late spare : Bool) → Ready config ps m → is_past (last_word ps) config.watchdog m ≡ late → has_spare config ps m Tick ≡ spare → link_act config ps m Tick Ticks ≡ if_room spare (cond late (Request DeviceWatchdog) Nothing) → (at_input config ps m Tick).link.phase ≡ Serving → ((last_word ps + config.watchdog ≤ m) × (nat_le 1 (sends is_watchdog_request (at_input config ps m Tick)) ≡ true)) ⊎ ((m < last_word ps + config.watchdog) × (nat_le 1 (sends is_watchdog_request (at_input config ps m Tick)) ≡ false))
+unasked-leaves : (config : Config) (ps : List Place) (m : ℕ) (late spare : Bool) → Ready config ps m → is_past (last_word ps) config.watchdog m ≡ late → has_spare config ps m Tick ≡ spare → link_act config ps m Tick Ticks ≡ if_room spare (cond late (Request DeviceWatchdog) Nothing) → (at_input config ps m Tick).link.phase ≡ Serving → ((last_word ps + config.watchdog ≤ m) × (nat_le 1 (send_count is_watchdog_request (at_input config ps m Tick)) ≡ true)) ⊎ ((m < last_word ps + config.watchdog) × (nat_le 1 (send_count is_watchdog_request (at_input config ps m Tick)) ≡ false))
 unasked-leaves config ps m true true is late spare acts serves =
     inl (leb-true _ _ late, asks-of config ps m (Request DeviceWatchdog) is acts)
 unasked-leaves config ps m true false is late spare acts serves = absurd (closed-not config ps m causes.Stalled acts serves)
 unasked-leaves config ps m false spare is late is_spare acts serves =
     inr (leb-false _ _ late, asks-of config ps m Nothing is (acts ∙ nothing-room spare))
 
-waits-leaves : (config : Config) (ps : List Place) (m asked : ℕ) (late : Bool) → Ready config ps m → is_past asked config.watchdog m ≡ late → link_act config ps m Tick Ticks ≡ if_room (has_spare config ps m Tick) (cond late (Close causes.Watchdog) Nothing) → (at_input config ps m Tick).link.phase ≡ Serving → (m < asked + config.watchdog) × (nat_le 1 (sends is_watchdog_request (at_input config ps m Tick)) ≡ false)
+waits-leaves : (config : Config) (ps : List Place) (m asked : ℕ) (late : Bool) → Ready config ps m → is_past asked config.watchdog m ≡ late → link_act config ps m Tick Ticks ≡ if_room (has_spare config ps m Tick) (cond late (Close causes.Watchdog) Nothing) → (at_input config ps m Tick).link.phase ≡ Serving → (m < asked + config.watchdog) × (nat_le 1 (send_count is_watchdog_request (at_input config ps m Tick)) ≡ false)
 waits-leaves config ps m asked true is late acts serves =
     absurd (closed-not config ps m causes.Watchdog (acts ∙ room-closes (has_spare config ps m Tick) causes.Watchdog) serves)
 waits-leaves config ps m asked false is late acts serves =
     (leb-false _ _ late, asks-of config ps m Nothing is (acts ∙ nothing-room (has_spare config ps m Tick)))
 
-tick-leaves : (config : Config) (ps : List Place) (m : ℕ) → Ready config ps m → Remembered ps → (link ps).phase ≡ Serving → (at_input config ps m Tick).link.phase ≡ Serving → TickLeaves config.watchdog (last_word ps) m (unanswered ps) (nat_le 1 (sends is_watchdog_request (at_input config ps m Tick)))
+tick-leaves : (config : Config) (ps : List Place) (m : ℕ) → Ready config ps m → Remembered ps → (link ps).phase ≡ Serving → (at_input config ps m Tick).link.phase ≡ Serving → TickLeaves config.watchdog (last_word ps) m (unanswered ps) (nat_le 1 (send_count is_watchdog_request (at_input config ps m Tick)))
 tick-leaves config ps m is r served serves =
     let act : link_act config ps m Tick Ticks ≡ if_room (has_spare config ps m Tick) (serving_tick (unanswered ps) (last_word ps) config.watchdog m) =
     tick-is config ps m served
@@ -284,12 +284,12 @@ waits-on config ps m input some later is r before =
     let when : p.moment ≡ m = moment-at config ps m input in
     let later_place : now ps ≤ p.moment = omega arith in
     record {
-      so_far = so-far-by p.moment (now ps) (unanswered ps) (begins ps p.input || is_word ps p.input) (nat_le 1 (sends is_watchdog_request p)) later_place before.so_far;
+      so_far = so-far-by p.moment (now ps) (unanswered ps) (begins ps p.input || is_word ps p.input) (nat_le 1 (send_count is_watchdog_request p)) later_place before.so_far;
       silent = λ serves.
           let served : (begins ps p.input || is_word ps p.input) ≡ false → (link ps).phase ≡ Serving =
           (λ old. served-at config ps m input (sym (ap (λ i. begins ps i || is_word ps i) same) ∙ old) serves)
           in
-          silent-by config.watchdog (last_word ps) p.moment (unanswered ps) (silent_ticks ps) (begins ps p.input || is_word ps p.input) (is_tick p.input) (nat_le 1 (sends is_watchdog_request p)) some
+          silent-by config.watchdog (last_word ps) p.moment (unanswered ps) (silent_ticks ps) (begins ps p.input || is_word ps p.input) (is_tick p.input) (nat_le 1 (send_count is_watchdog_request p)) some
           (λ a asked. let old = before.so_far a asked in omega arith)
           (λ old. before.silent (served old))
           (λ other. none-of _ (unasked-at config ps m input is (sym (ap is_tick same) ∙ other)))
@@ -297,8 +297,8 @@ waits-on config ps m input some later is r before =
           let tick : input ≡ Tick = is-tick input (sym (ap is_tick same) ∙ ticked) in
           let still_serves : (at_input config ps m Tick).link.phase ≡ Serving = sym (ap (λ i. (at_input config ps m i).link.phase) tick) ∙ serves in
           let leaves = tick-leaves config ps m is r (served old) still_serves in
-          subst (λ n. TickLeaves config.watchdog (last_word ps) n (unanswered ps) (nat_le 1 (sends is_watchdog_request p))) (sym when)
-          (subst (λ (i : Input). TickLeaves config.watchdog (last_word ps) m (unanswered ps) (nat_le 1 (sends is_watchdog_request (at_input config ps m i)))) (sym tick) leaves));
+          subst (λ n. TickLeaves config.watchdog (last_word ps) n (unanswered ps) (nat_le 1 (send_count is_watchdog_request p))) (sym when)
+          (subst (λ (i : Input). TickLeaves config.watchdog (last_word ps) m (unanswered ps) (nat_le 1 (send_count is_watchdog_request (at_input config ps m i)))) (sym tick) leaves));
     }
 
 waits : (config : Config) → InLimits config → (history : List Event) → Waits config (past config history)

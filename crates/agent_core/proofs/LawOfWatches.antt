@@ -25,7 +25,7 @@ use Rattle.agent_events.specs.declared.events.Input.{Input}
 use Rattle.agent_events.specs.declared.events.Input.TheVariants.{Message, Tick}
 use Rattle.agent_core.specs.Settings.{names, end_number}
 use Rattle.agent_core.specs.Fits.{header_by}
-use Rattle.agent_core.specs.Places.{Event, Place, now, link, begins, total, serial, sends}
+use Rattle.agent_core.specs.Places.{Event, Place, now, link, begins, total, serial, send_count}
 use Rattle.agent_core.specs.Rooms.{has_spare}
 use Rattle.agent_core.specs.History.{at_input, past, peer, linked, link_act, link_after, next_numbers}
 use Rattle.agent_core.specs.Machine.{count_of}
@@ -53,10 +53,10 @@ watchdog-wants h e = ap (λ b. b && h.command == 280) e
 -- what the place leaves of both
 record Tracks (ps : List Place) (m : ℕ) (input : Input) (p : Place) : Type 0 where
   pub heard : p.link.heard ≡ cond (begins ps input || is_word ps input) m (link ps).heard
-  pub asked : p.link.asked ≡ cond (begins ps input || is_word ps input) None (cond (nat_le 1 (sends is_watchdog_request p)) (Some m) (link ps).asked)
+  pub asked : p.link.asked ≡ cond (begins ps input || is_word ps input) None (cond (nat_le 1 (send_count is_watchdog_request p)) (Some m) (link ps).asked)
 
 -- where nothing is sent and the link stays both do
-unmoved : (ps : List Place) (m : ℕ) (input : Input) (p : Place) → p.link ≡ link ps → begins ps input ≡ false → is_word ps input ≡ false → sends is_watchdog_request p ≡ 0 → Tracks ps m input p
+unmoved : (ps : List Place) (m : ℕ) (input : Input) (p : Place) → p.link ≡ link ps → begins ps input ≡ false → is_word ps input ≡ false → send_count is_watchdog_request p ≡ 0 → Tracks ps m input p
 unmoved ps m input p same old unheard none =
     let neither : (begins ps input || is_word ps input) ≡ false = rw (old, unheard) refl in
     record {
@@ -64,7 +64,7 @@ unmoved ps m input p same old unheard none =
       asked =
           ap (λ (l : LinkAt). l.asked) same
           ∙ sym (ap (λ n. cond (nat_le 1 n) (Some m) (link ps).asked) none)
-          ∙ sym (ap (λ b. cond b None (cond (nat_le 1 (sends is_watchdog_request p)) (Some m) (link ps).asked)) neither);
+          ∙ sym (ap (λ b. cond b None (cond (nat_le 1 (send_count is_watchdog_request p)) (Some m) (link ps).asked)) neither);
     }
 
 open-word : (phase : Phase) → is_open phase ≡ true → not (is_closed phase) ≡ true
@@ -84,7 +84,7 @@ counts-one true = refl
 counts-one false = refl
 
 -- how many watchdog requests the link sends
-pub watchdogs : (config : Config) (ps : List Place) (m : ℕ) (input : Input) (event : LinkEvent) (message : Option MessageParts) → Ready config ps m → sends is_watchdog_request (linked config ps m input event message) ≡ count_of (asks_for is_watchdog_request (link_act config ps m input event)) + 0
+pub watchdogs : (config : Config) (ps : List Place) (m : ℕ) (input : Input) (event : LinkEvent) (message : Option MessageParts) → Ready config ps m → send_count is_watchdog_request (linked config ps m input event message) ≡ count_of (asks_for is_watchdog_request (link_act config ps m input event)) + 0
 watchdogs config ps m input event message is =
     linked-sends config ps m input event message is_watchdog_request false _
     (own-by is_watchdog_request watchdog-looks watchdog-wants (names config) (link_at (peer config ps) m event) (end_number config (total ps)) message (link_act config ps m input event))
@@ -99,7 +99,7 @@ link-tracks config ps m input event message is spoken =
     let p = linked config ps m input event message in
     let r = link-remembers config ps m input event in
     let fresh = refreshes config ps input event message spoken in
-    let asks : asks_for is_watchdog_request (link_act config ps m input event) ≡ nat_le 1 (sends is_watchdog_request p) =
+    let asks : asks_for is_watchdog_request (link_act config ps m input event) ≡ nat_le 1 (send_count is_watchdog_request p) =
     counts-one _ ∙ ap (nat_le 1) (sym (watchdogs config ps m input event message is))
     in
     record {
@@ -126,7 +126,7 @@ word-tracks config ps m input octets message comes p same =
       asked =
           ap (λ (l : LinkAt). l.asked) same ∙ r.asked
           ∙ ap (λ b. cond b None (cond (asks_for is_watchdog_request (link_act config ps m (Message octets) event)) (Some m) (link ps).asked)) word
-          ∙ sym (ap (λ b. cond b None (cond (nat_le 1 (sends is_watchdog_request p)) (Some m) (link ps).asked)) both);
+          ∙ sym (ap (λ b. cond b None (cond (nat_le 1 (send_count is_watchdog_request p)) (Some m) (link ps).asked)) both);
     }
 
 pub taken-watchdogs : (kind : Kind2) (numbers : Numbers) → is_watchdog_request (header_by kind numbers) ≡ false
@@ -176,9 +176,9 @@ remembered-on config ps m input is before =
           ∙ ap (λ n. cond (begins ps p.input || is_word ps p.input) p.moment n) before.heard;
       asked =
           t.asked
-          ∙ ap (λ b. cond b None (cond (nat_le 1 (sends is_watchdog_request p)) (Some m) (link ps).asked)) here
-          ∙ ap (λ n. cond (begins ps p.input || is_word ps p.input) None (cond (nat_le 1 (sends is_watchdog_request p)) (Some n) (link ps).asked)) when
-          ∙ ap (λ o. cond (begins ps p.input || is_word ps p.input) None (cond (nat_le 1 (sends is_watchdog_request p)) (Some p.moment) o)) before.asked;
+          ∙ ap (λ b. cond b None (cond (nat_le 1 (send_count is_watchdog_request p)) (Some m) (link ps).asked)) here
+          ∙ ap (λ n. cond (begins ps p.input || is_word ps p.input) None (cond (nat_le 1 (send_count is_watchdog_request p)) (Some n) (link ps).asked)) when
+          ∙ ap (λ o. cond (begins ps p.input || is_word ps p.input) None (cond (nat_le 1 (send_count is_watchdog_request p)) (Some p.moment) o)) before.asked;
     }
 
 pub remembered : (config : Config) → InLimits config → (history : List Event) → Remembered (past config history)

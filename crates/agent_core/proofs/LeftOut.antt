@@ -26,7 +26,7 @@ use Rattle.agent_events.specs.Kinds.{is_drain}
 use Rattle.agent_core.specs.Settings.{names, end_number}
 use Rattle.agent_core.specs.Links.{LinkAt, with_requests, without_requests}
 use Rattle.agent_core.specs.Verdict.{Request, verdict}
-use Rattle.agent_core.specs.Places.{Event, Place, Taking, now, link, begins, opens, takings, with_taking, is_at, match_of, answer_to, reply_in, end_by, ends, live, waiting, rank, hop_at, number, sends, sent_on_link, used, base, outbox, total, serial, is_application_request, is_base_request, is_first_request}
+use Rattle.agent_core.specs.Places.{Event, Place, Taking, now, link, begins, opens, takings, with_taking, is_at, match_of, answer_to, reply_in, end_by, ends, live, waiting, rank, hop_at, number, send_count, sent_on_link, used, base, outbox, total, serial, is_application_request, is_base_request, is_first_request}
 use Rattle.agent_core.specs.Rooms.{rooms, refusal, has_spare}
 use Rattle.agent_core.specs.Requests.{request_sent, kept_of}
 use Rattle.agent_core.specs.History.{at_input, place, places, past, still, taking_of, taking_place, admitted, repeated, requested, datagram, peer, link_act, link_outputs, again, resends, linked, answered, heard, messaged, matches, is_number, command_of, next_numbers, outcome, outcome_outputs, outputs_after}
@@ -342,8 +342,8 @@ place-is config k m0 qs rs e a =
 
 counts-on : (test : Header → Bool) (k m0 : ℕ) (p : Place) (qs rs : List Place) → Alike k m0 qs rs → sent_on_link test qs ≡ sent_on_link test rs → sent_on_link test (p ∷ qs) ≡ sent_on_link test (moved_place k p ∷ rs)
 counts-on test k m0 p qs rs a same =
-    ap (λ b. cond b (sends test p) (sent_on_link test qs + sends test p)) (begins-is k m0 qs rs p.input a)
-    ∙ ap (λ n. cond (begins rs p.input) (sends test p) (n + sends test p)) same
+    ap (λ b. cond b (send_count test p) (sent_on_link test qs + send_count test p)) (begins-is k m0 qs rs p.input a)
+    ∙ ap (λ n. cond (begins rs p.input) (send_count test p) (n + send_count test p)) same
 
 matched-on : (k : ℕ) (p : Place) (b : Bool) (o r : Option Place) → option_map told o ≡ option_map told r → option_map told (cond b (Some p) o) ≡ option_map told (cond b (Some (moved_place k p)) r)
 matched-on k p true o r same = refl
@@ -366,9 +366,9 @@ alike-on k m0 p qs rs later a = record {
   used_is = counts-on is_application_request k m0 p qs rs a a.used_is;
   base_is = counts-on is_base_request k m0 p qs rs a a.base_is;
   outbox_is =
-      ap (λ b. cond (is_drain p.input) 0 (cond b (sends (λ h. true) p) (outbox qs + sends (λ h. true) p))) (begins-is k m0 qs rs p.input a)
-      ∙ ap (λ n. cond (is_drain p.input) 0 (cond (begins rs p.input) (sends (λ h. true) p) (n + sends (λ h. true) p))) a.outbox_is;
-  total_is = ap (λ n. n + sends is_first_request p) a.total_is;
+      ap (λ b. cond (is_drain p.input) 0 (cond b (send_count (λ h. true) p) (outbox qs + send_count (λ h. true) p))) (begins-is k m0 qs rs p.input a)
+      ∙ ap (λ n. cond (is_drain p.input) 0 (cond (begins rs p.input) (send_count (λ h. true) p) (n + send_count (λ h. true) p))) a.outbox_is;
+  total_is = ap (λ n. n + send_count is_first_request p) a.total_is;
 }
 
 pub moment-of : (config : Config) (ps : List Place) (m : ℕ) (input : Input) → (at_input config ps m input).moment ≡ m
@@ -529,12 +529,12 @@ still-alike config ps m input outputs at later leaves =
       takings_are = map-below (length ps) (takings ps) at.each;
       matched = λ n. ap (option_map told) (matched-alike ps at n);
       numbered = λ t. numbered-alike ps at t ∙ ap (λ b. cond b None (number ps (moved (length ps) t))) (sym leaves.begins_none);
-      used_is = sym (stays (begins ps input) (used ps) (sends is_application_request p) leaves.begins_none leaves.unsent.application);
-      base_is = sym (stays (begins ps input) (base ps) (sends is_base_request p) leaves.begins_none leaves.unsent.base);
+      used_is = sym (stays (begins ps input) (used ps) (send_count is_application_request p) leaves.begins_none leaves.unsent.application);
+      base_is = sym (stays (begins ps input) (base ps) (send_count is_base_request p) leaves.begins_none leaves.unsent.base);
       outbox_is =
           drained-is (is_drain input) (outbox ps) leaves.drains_none
-          ∙ ap (cond (is_drain input) 0) (sym (stays (begins ps input) (outbox ps) (sends (λ h. true) p) leaves.begins_none leaves.unsent.any));
-      total_is = sym (stays false (total ps) (sends is_first_request p) refl leaves.unsent.first);
+          ∙ ap (cond (is_drain input) 0) (sym (stays (begins ps input) (outbox ps) (send_count (λ h. true) p) leaves.begins_none leaves.unsent.any));
+      total_is = sym (stays false (total ps) (send_count is_first_request p) refl leaves.unsent.first);
     }
 
 places-split : (config : Config) (ps : List Place) (es more : List Event) → places config ps (es ++ more) ≡ places config (places config ps es) more

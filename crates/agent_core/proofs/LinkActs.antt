@@ -20,10 +20,10 @@ use Rattle.peer_machine.specs.declared.words.Event.{Event as LinkEvent}
 use Rattle.peer_machine.specs.declared.words.Event.TheVariants.{Opens, Serves, Says, Breaks, Ends, Ticks, Leaves}
 use Rattle.peer_machine.specs.declared.words.Act.{Act}
 use Rattle.peer_machine.specs.declared.words.Act.TheVariants.{Nothing, Serve, Discard, Pass, Close, Request, Answer, AnswerAndClose}
-use Rattle.peer_machine.specs.Rules.{act_on, on_end, on_said, open_said, greeting_said, closing_said, on_tick, on_leave, is_past, if_room, may_begin, begun, heard_at, noted, after}
+use Rattle.peer_machine.specs.Rules.{act_on, on_end, on_said, open_said, greeting_said, closing_said, on_tick, on_leave, is_past, if_room, may_begin, begun, heard_at, after_event, after}
 use Rattle.peer_machine.specs.Messages.{request_header, request_text, answer_text}
 use Rattle.peer_machine.specs.Reading.{said_in, answer_said, request_said, is_application_command}
-use Rattle.peer_machine.specs.Step.{sent, answered}
+use Rattle.peer_machine.specs.Step.{sent, base_answer}
 use Rattle.agent_events.specs.declared.events.Output.TheVariants.{Send, Closed as ClosedBy, Dropped}
 use Rattle.agent_core.specs.Places.{is_request, is_serving, opens, header_of}
 use Rattle.agent_core.specs.History.{link_outputs}
@@ -350,7 +350,7 @@ pub record IsAnswerText (names : Names) (message : Option MessageParts) (act : A
 pub request-looks : LooksAt is_request
 request-looks h g flags command = ap (λ f. nat_le 128 f) flags
 
-answered-is : (names : Names) (message : Option MessageParts) (act : Act) (code : ℕ) (error : Bool) → is_answering act ≡ true → IfSome (answered names message code error) (λ octets. is_request (header_of octets) ≡ false → IsAnswerText names message act octets)
+answered-is : (names : Names) (message : Option MessageParts) (act : Act) (code : ℕ) (error : Bool) → is_answering act ≡ true → IfSome (base_answer names message code error) (λ octets. is_request (header_of octets) ≡ false → IsAnswerText names message act octets)
 answered-is names None act code error answers = tt
 answered-is names (Some m) act code error answers =
     λ no. record { parts = m; is = refl; answers = answers; code = code; error = error; text = refl }
@@ -481,7 +481,7 @@ word-asked Greeting l m = refl
 word-asked Serving l m = refl
 word-asked Closing l m = refl
 
-noted-heard : (l : LinkState) (m : ℕ) (event : LinkEvent) → (noted l m event).heard ≡ cond (refreshes_by l event) m l.heard
+noted-heard : (l : LinkState) (m : ℕ) (event : LinkEvent) → (after_event l m event).heard ≡ cond (refreshes_by l event) m l.heard
 noted-heard l m Opens = begun-heard l m (may_begin l.phase l.number)
 noted-heard l m Serves = begun-heard l m (may_begin l.phase l.number)
 noted-heard l m (Says said) = word-heard l.phase l m
@@ -490,7 +490,7 @@ noted-heard l m Ends = refl
 noted-heard l m Ticks = refl
 noted-heard l m Leaves = refl
 
-noted-asked : (l : LinkState) (m : ℕ) (event : LinkEvent) → (noted l m event).asked ≡ cond (refreshes_by l event) None l.asked
+noted-asked : (l : LinkState) (m : ℕ) (event : LinkEvent) → (after_event l m event).asked ≡ cond (refreshes_by l event) None l.asked
 noted-asked l m Opens = begun-asked l m (may_begin l.phase l.number)
 noted-asked l m Serves = begun-asked l m (may_begin l.phase l.number)
 noted-asked l m (Says said) = word-asked l.phase l m
@@ -585,11 +585,11 @@ either true true m asked apart = absurd (let no = apart refl in cc)
 either true false m asked apart = refl
 either false w m asked apart = refl
 
-pub remembers : (l : LinkState) (watchdog m : ℕ) (event : LinkEvent) (spare : Bool) (act : Act) → act ≡ if_room spare (act_on l watchdog m event) → Remembers l m (refreshes_by l event) (asks_for is_watchdog_request act) (after (noted l m event) m act).heard (after (noted l m event) m act).asked
+pub remembers : (l : LinkState) (watchdog m : ℕ) (event : LinkEvent) (spare : Bool) (act : Act) → act ≡ if_room spare (act_on l watchdog m event) → Remembers l m (refreshes_by l event) (asks_for is_watchdog_request act) (after (after_event l m event) m act).heard (after (after_event l m event) m act).asked
 remembers l watchdog m event spare act is = record {
-  heard = after-heard (noted l m event) m act ∙ noted-heard l m event;
+  heard = after-heard (after_event l m event) m act ∙ noted-heard l m event;
   asked =
-      after-asked (noted l m event) m act
+      after-asked (after_event l m event) m act
       ∙ ap (λ (o : Option ℕ). cond (asks_for is_watchdog_request act) (Some m) o) (noted-asked l m event)
       ∙ either (refreshes_by l event) (asks_for is_watchdog_request act) m l.asked
       (λ e. ap (asks_for is_watchdog_request) is ∙ room-unasked spare (act_on l watchdog m event) (refresh-unasked l watchdog m event e));

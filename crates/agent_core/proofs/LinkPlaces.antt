@@ -15,7 +15,7 @@ use Rattle.agent_events.specs.declared.events.Input.{Input}
 use Rattle.agent_core.specs.declared.ledger.Ledger.{Ledger}
 use Rattle.agent_core.specs.Settings.{names, end_number}
 use Rattle.agent_core.specs.Links.{with_requests, without_requests}
-use Rattle.agent_core.specs.Places.{Place, Taking, link, begins, opens, sends, is_sent, used, base, outbox, total, live, waiting, takings, is_application_request, is_base_request, is_first_request}
+use Rattle.agent_core.specs.Places.{Place, Taking, link, begins, opens, send_count, is_sent, used, base, outbox, total, live, waiting, takings, is_application_request, is_base_request, is_first_request}
 use Rattle.agent_events.specs.Kinds.{is_drain}
 use Rattle.agent_core.specs.History.{peer, linked, link_act, link_after, link_output, link_outputs, resends}
 use Rattle.agent_core.specs.Machine.{count_of, begins_by, peer_then, link_then, opens_then, output_for, on_link, resent_count, kept_resends, table_relinked}
@@ -35,7 +35,7 @@ abbrev acts : Config → List Place → ℕ → Input → LinkEvent → Bool
 acts config ps m input event = asks (link_act config ps m input event)
 
 -- how many messages that meet the test the place sends
-pub linked-sends : (config : Config) (ps : List Place) (m : ℕ) (input : Input) (event : LinkEvent) (message : Option MessageParts) (test : Header → Bool) (b : Bool) (n : ℕ) → count-sent test (link_output config ps m input event message).send ≡ n → AllByRecursion (AgainIs test b) (linked config ps m input event message).resent → sends test (linked config ps m input event message) ≡ n + cond b (length (linked config ps m input event message).resent) 0
+pub linked-sends : (config : Config) (ps : List Place) (m : ℕ) (input : Input) (event : LinkEvent) (message : Option MessageParts) (test : Header → Bool) (b : Bool) (n : ℕ) → count-sent test (link_output config ps m input event message).send ≡ n → AllByRecursion (AgainIs test b) (linked config ps m input event message).resent → send_count test (linked config ps m input event message) ≡ n + cond b (length (linked config ps m input event message).resent) 0
 linked-sends config ps m input event message test b n own all =
     let o = link_output config ps m input event message in
     let rs = (linked config ps m input event message).resent in
@@ -44,10 +44,10 @@ linked-sends config ps m input event message test b n own all =
     ∙ ap (λ k. n + k) (resends-count test b rs all)
 
 pub record LinkSends (config : Config) (ps : List Place) (m : ℕ) (input : Input) (event : LinkEvent) (message : Option MessageParts) : Type 0 where
-  pub application : sends is_application_request (linked config ps m input event message) ≡ 0 + length (linked config ps m input event message).resent
-  pub base : sends is_base_request (linked config ps m input event message) ≡ count_of (acts config ps m input event) + 0
-  pub first : sends is_first_request (linked config ps m input event message) ≡ count_of (acts config ps m input event) + 0
-  pub any : sends (λ h. true) (linked config ps m input event message) ≡ count_of (is_some (link_output config ps m input event message).send) + length (linked config ps m input event message).resent
+  pub application : send_count is_application_request (linked config ps m input event message) ≡ 0 + length (linked config ps m input event message).resent
+  pub base : send_count is_base_request (linked config ps m input event message) ≡ count_of (acts config ps m input event) + 0
+  pub first : send_count is_first_request (linked config ps m input event message) ≡ count_of (acts config ps m input event) + 0
+  pub any : send_count (λ h. true) (linked config ps m input event message) ≡ count_of (is_some (link_output config ps m input event message).send) + length (linked config ps m input event message).resent
 
 pub link-sends : (config : Config) (ps : List Place) (m : ℕ) (input : Input) (event : LinkEvent) (message : Option MessageParts) → AllByRecursion (λ t. SentFits t.sent) (linked config ps m input event message).resent → LinkSends config ps m input event message
 link-sends config ps m input event message fits =
@@ -89,7 +89,7 @@ peer-then ps m S stands input event message begun counts =
     let p = linked S.config ps m input event message in
     let act = link_act S.config ps m input event in
     let L = link_by S.config ps m input event in
-    let own : sends is_base_request p ≡ count_of (asks act) = let h = counts.base in omega arith in
+    let own : send_count is_base_request p ≡ count_of (asks act) = let h = counts.base in omega arith in
     let counted : base (p ∷ ps) ≡ cond (begins ps input) (count_of (asks act)) (base ps + count_of (asks act)) = ap (λ n. cond (begins ps input) n (base ps + n)) own in
     let requests : L.requests ≡ base (p ∷ ps) % 2147483648 =
     requests-then (peer S.config ps).link (base ps) m event act refl
@@ -127,8 +127,8 @@ linked-follows ps m S stands up fits input event message begun kept =
     let resent : resent_count S (opens_then S event) ≡ length p.resent = ap (resent_count S) opening ∙ resent-count ps m S stands b in
     let asked : (output_for S event message).request ≡ asks (link_act S.config ps m input event) = ap (λ (o : PeerOutput). o.request) output in
     let said : count_of (is_some (output_for S event message).send) ≡ count_of (is_some (link_output S.config ps m input event message).send) = ap (λ (o : PeerOutput). count_of (is_some o.send)) output in
-    let application : sends is_application_request p ≡ length p.resent = let h = counts.application in omega arith in
-    let first : sends is_first_request p ≡ count_of (asks (link_act S.config ps m input event)) = let h = counts.first in omega arith in
+    let application : send_count is_application_request p ≡ length p.resent = let h = counts.application in omega arith in
+    let first : send_count is_first_request p ≡ count_of (asks (link_act S.config ps m input event)) = let h = counts.first in omega arith in
     record {
       stands = record {
         moment = stands.moment;
@@ -137,7 +137,7 @@ linked-follows ps m S stands up fits input event message begun kept =
             ap (λ c. cond c 0 S.used + resent_count S (opens_then S event)) begun'
             ∙ ap (λ n. cond (begins ps input) 0 n + resent_count S (opens_then S event)) stands.used
             ∙ ap (λ n. cond (begins ps input) 0 (used ps) + n) (resent ∙ sym application)
-            ∙ anew (begins ps input) (used ps) (sends is_application_request p);
+            ∙ anew (begins ps input) (used ps) (send_count is_application_request p);
         outbox =
             ap (λ c. cond c 0 S.outbox + count_of (is_some (output_for S event message).send) + resent_count S (opens_then S event)) begun'
             ∙ ap (λ n. cond (begins ps input) 0 n + count_of (is_some (output_for S event message).send) + resent_count S (opens_then S event)) stands.outbox
@@ -145,7 +145,7 @@ linked-follows ps m S stands up fits input event message begun kept =
             ∙ ap (λ n. cond (begins ps input) 0 (outbox ps) + count_of (is_some (link_output S.config ps m input event message).send) + n) resent
             ∙ anew-two (begins ps input) (outbox ps) (count_of (is_some (link_output S.config ps m input event message).send)) (length p.resent)
             ∙ ap (λ n. cond (begins ps input) n (outbox ps + n)) (sym counts.any)
-            ∙ ap (λ d. cond d 0 (cond (begins ps input) (sends (λ h. true) p) (outbox ps + sends (λ h. true) p))) (sym kept);
+            ∙ ap (λ d. cond d 0 (cond (begins ps input) (send_count (λ h. true) p) (outbox ps + send_count (λ h. true) p))) (sym kept);
         total =
             ap (λ n. (S.total + n) % 4294967296) (ap count_of asked ∙ sym first)
             ∙ (let h = stands.total in omega arith);

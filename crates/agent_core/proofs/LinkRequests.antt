@@ -8,7 +8,7 @@ use Rattle.peer_machine.specs.declared.words.Event.{Event as LinkEvent}
 use Rattle.peer_machine.specs.declared.words.Event.TheVariants.{Opens, Serves, Says, Breaks, Ends, Ticks, Leaves}
 use Rattle.peer_machine.specs.declared.words.Act.{Act}
 use Rattle.peer_machine.specs.declared.words.Act.TheVariants.{Nothing, Serve, Discard, Pass, Close, Request, Answer, AnswerAndClose}
-use Rattle.peer_machine.specs.Rules.{after, noted, begun, heard_at, may_begin}
+use Rattle.peer_machine.specs.Rules.{after, after_event, begun, heard_at, may_begin}
 use Rattle.peer_machine.specs.Step.{is_request as asks}
 use Rattle.agent_core.specs.Links.{with_requests, without_requests}
 use Rattle.agent_core.specs.Machine.{count_of, begins_by}
@@ -23,7 +23,7 @@ heard-requests Greeting l m = refl
 heard-requests Serving l m = refl
 heard-requests Closing l m = refl
 
-pub noted-requests : (l : LinkState) (m : ℕ) (event : LinkEvent) → (noted l m event).requests ≡ cond (begins_by l event) 0 l.requests
+pub noted-requests : (l : LinkState) (m : ℕ) (event : LinkEvent) → (after_event l m event).requests ≡ cond (begins_by l event) 0 l.requests
 noted-requests l m Opens = begun-requests l m (may_begin l.phase l.number)
 noted-requests l m Serves = begun-requests l m (may_begin l.phase l.number)
 noted-requests l m (Says said) = heard-requests l.phase l m
@@ -53,12 +53,12 @@ few-anew true base = omega arith
 few-anew false base = omega arith
 
 -- the count after a step is the number of requests since the link began
-pub requests-then : (l : LinkState) (base m : ℕ) (event : LinkEvent) (act : Act) → l.requests ≡ base % 2147483648 → (after (noted l m event) m act).requests ≡ cond (begins_by l event) (count_of (asks act)) (base + count_of (asks act)) % 2147483648
+pub requests-then : (l : LinkState) (base m : ℕ) (event : LinkEvent) (act : Act) → l.requests ≡ base % 2147483648 → (after (after_event l m event) m act).requests ≡ cond (begins_by l event) (count_of (asks act)) (base + count_of (asks act)) % 2147483648
 requests-then l base m event act is =
     let b = begins_by l event in
-    let before : (noted l m event).requests ≡ cond b 0 (base % 2147483648) = noted-requests l m event ∙ ap (λ n. cond b 0 n) is in
-    let few : (noted l m event).requests < 2147483648 = rw before (few-anew b base) in
-    after-requests (noted l m event) m act few
+    let before : (after_event l m event).requests ≡ cond b 0 (base % 2147483648) = noted-requests l m event ∙ ap (λ n. cond b 0 n) is in
+    let few : (after_event l m event).requests < 2147483648 = rw before (few-anew b base) in
+    after-requests (after_event l m event) m act few
     ∙ ap (λ n. (n + count_of (asks act)) % 2147483648) before
     ∙ counted-anew b base (count_of (asks act))
 
@@ -77,7 +77,7 @@ heard-number Serving l m = refl
 heard-number Closing l m = refl
 
 -- and a link that begins has the next number
-pub number-noted : (l : LinkState) (m : ℕ) (event : LinkEvent) → (noted l m event).number ≡ cond (begins_by l event) (l.number + 1) l.number
+pub number-noted : (l : LinkState) (m : ℕ) (event : LinkEvent) → (after_event l m event).number ≡ cond (begins_by l event) (l.number + 1) l.number
 number-noted l m Opens = begun-number l m (may_begin l.phase l.number)
 number-noted l m Serves = begun-number l m (may_begin l.phase l.number)
 number-noted l m (Says said) = heard-number l.phase l m

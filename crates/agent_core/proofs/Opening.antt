@@ -16,7 +16,7 @@ use Rattle.peer_machine.specs.declared.words.Event.{Event as LinkEvent}
 use Rattle.peer_machine.specs.declared.words.Event.TheVariants.{Opens, Serves, Says, Breaks, Ends, Ticks, Leaves}
 use Rattle.peer_machine.specs.declared.words.Act.{Act}
 use Rattle.peer_machine.specs.declared.words.Act.TheVariants.{Nothing, Serve, Discard, Pass, Close, Request, Answer, AnswerAndClose}
-use Rattle.peer_machine.specs.Rules.{act_on, on_end, on_said, open_said, greeting_said, closing_said, on_tick, on_leave, is_past, serving_tick, if_room, may_begin, begun, heard_at, noted, after}
+use Rattle.peer_machine.specs.Rules.{act_on, on_end, on_said, open_said, greeting_said, closing_said, on_tick, on_leave, is_past, serving_tick, if_room, may_begin, begun, heard_at, after_event, after}
 use Rattle.peer_machine.specs.Step.{output_of, sent}
 use Rattle.agent_core.specs.declared.ledger.Ledger.{Ledger}
 use Rattle.agent_core.specs.Links.{is_grant}
@@ -38,7 +38,7 @@ heard-phase Greeting l m = refl
 heard-phase Serving l m = refl
 heard-phase Closing l m = refl
 
-pub noted-phase : (l : LinkState) (m : ℕ) (event : LinkEvent) → (noted l m event).phase ≡ l.phase
+pub noted-phase : (l : LinkState) (m : ℕ) (event : LinkEvent) → (after_event l m event).phase ≡ l.phase
 noted-phase l m Opens = begun-phase l m (may_begin l.phase l.number)
 noted-phase l m Serves = begun-phase l m (may_begin l.phase l.number)
 noted-phase l m (Says said) = heard-phase l.phase l m
@@ -74,12 +74,12 @@ opens-by p l m (AnswerAndClose code cause) e h = absurd (opens-not p h)
 
 pub opens-serve : (S : Ledger) (event : LinkEvent) → opens_then S event ≡ true → act_for S event ≡ Serve
 opens-serve S event h =
-    opens-by S.peer.link.phase (noted S.peer.link S.moment event) S.moment (act_for S event) (noted-phase S.peer.link S.moment event) h
+    opens-by S.peer.link.phase (after_event S.peer.link S.moment event) S.moment (act_for S event) (noted-phase S.peer.link S.moment event) h
 
 -- the link itself says nothing then
 pub opens-silent : (S : Ledger) (event : LinkEvent) (message : Option MessageParts) → opens_then S event ≡ true → link_outputs (output_for S event message) ≡ []
 opens-silent S event message h =
-    ap (λ (act : Act). link_outputs (output_of (sent S.peer.names (noted S.peer.link S.moment event) (end_number S.config S.total) message act) act))
+    ap (λ (act : Act). link_outputs (output_of (sent S.peer.names (after_event S.peer.link S.moment event) (end_number S.config S.total) message act) act))
     (opens-serve S event h)
 
 -- ---- the inputs that open it
@@ -96,8 +96,8 @@ room-serve false (Answer code error) e = absurd (cc)
 room-serve false (AnswerAndClose code cause) e = absurd (cc)
 
 pub data Opening (l : LinkState) (m : ℕ) (event : LinkEvent) : Type 0 where
-  Begun : may_open l.phase event ≡ true → (noted l m event).number ≡ l.number + 1 → Opening l m event
-  Greeted : may_open l.phase event ≡ true → l.phase ≡ Greeting → (noted l m event).number ≡ l.number → Opening l m event
+  Begun : may_open l.phase event ≡ true → (after_event l m event).number ≡ l.number + 1 → Opening l m event
+  Greeted : may_open l.phase event ≡ true → l.phase ≡ Greeting → (after_event l m event).number ≡ l.number → Opening l m event
 
 begins-closed : (p : Phase) (n : ℕ) → may_begin p n ≡ true → may_open p Serves ≡ true
 begins-closed Closed n e = refl
@@ -213,7 +213,7 @@ opening-may l m event (Greeted may greeting number) = may
 pub opens-may : (S : Ledger) (event : LinkEvent) → opens_then S event ≡ true → may_open S.peer.link.phase event ≡ true
 opens-may S event h = opening-may S.peer.link S.moment event (opening S event h)
 
-fresh-by : (S : Ledger) (event : LinkEvent) → IsSteady S → Opening S.peer.link S.moment event → (e : Entry) → EntryFits S e → e.link ≢ (noted S.peer.link S.moment event).number
+fresh-by : (S : Ledger) (event : LinkEvent) → IsSteady S → Opening S.peer.link S.moment event → (e : Entry) → EntryFits S e → e.link ≢ (after_event S.peer.link S.moment event).number
 fresh-by S event steady (Begun may number) e fits same = let h = fits.linked in omega arith
 fresh-by S event steady (Greeted may greeting number) e fits same =
     let unused : S.used ≡ 0 = subst (λ (p : Phase). IsFreshIn p S.used) greeting steady.greeting in
@@ -223,5 +223,5 @@ fresh-by S event steady (Greeted may greeting number) e fits same =
 -- no live entry has the link that opens
 pub opens-fresh : (S : Ledger) (event : LinkEvent) → IsSteady S → opens_then S event ≡ true → (e : Entry) → EntryFits S e → e.link ≢ (link_then S event).number
 opens-fresh S event steady h e fits same =
-    let number : (link_then S event).number ≡ (noted S.peer.link S.moment event).number = ap (λ (act : Act). (after (noted S.peer.link S.moment event) S.moment act).number) (opens-serve S event h) in
+    let number : (link_then S event).number ≡ (after_event S.peer.link S.moment event).number = ap (λ (act : Act). (after (after_event S.peer.link S.moment event) S.moment act).number) (opens-serve S event h) in
     fresh-by S event steady (opening S event h) e fits (same ∙ number)

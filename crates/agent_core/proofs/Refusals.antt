@@ -5,7 +5,7 @@ use Rattle.radius_packet.specs.declared.reasons.Reason.TheVariants.{LinkDown, Sp
 use Rattle.std.proofs.lemmas.Bool.{not-false, ltb-false, eqb-false}
 use Rattle.agent_settings.specs.declared.config.Config.{Config}
 use Rattle.agent_core.specs.Places.{is_serving}
-use Rattle.agent_core.specs.Rooms.{Rooms, refusal, is_spent, is_backed_up}
+use Rattle.agent_core.specs.Rooms.{Rooms, refusal, is_out_of_numbers, is_backed_up}
 
 pub record Admits (config : Config) (r : Rooms) : Type 0 where
   pub serving : is_serving r.phase ≡ true
@@ -25,7 +25,7 @@ or-false false b e = (refl, e)
 pub refusal-none : (config : Config) (r : Rooms) → refusal config r ≡ None → Admits config r
 refusal-none config r e =
     let down = none-of (not (is_serving r.phase)) LinkDown _ e in
-    let spent = none-of (is_spent r) Spent _ down.1 in
+    let spent = none-of (is_out_of_numbers r) Spent _ down.1 in
     let full = none-of (r.live == config.capacity) Full _ spent.1 in
     let crowded = none-of (is_backed_up config r) Backlog None full.1 in
     let both = or-false _ _ spent.0 in

@@ -10,7 +10,7 @@ use Rattle.peer_machine.specs.declared.Phase.TheVariants.{Closed, Greeting, Serv
 use Rattle.peer_machine.specs.declared.words.Event.{Event as LinkEvent}
 use Rattle.peer_machine.specs.declared.words.Act.{Act}
 use Rattle.peer_machine.specs.Step.{sent, link_at}
-use Rattle.peer_machine.specs.Rules.{act_on, noted}
+use Rattle.peer_machine.specs.Rules.{act_on, after_event}
 use Rattle.agent_core.specs.declared.ledger.Ledger.{Ledger}
 use Rattle.agent_core.specs.Settings.{end_number}
 use Rattle.agent_core.specs.Places.{is_serving}
@@ -190,7 +190,7 @@ pub record BeforeOpening (S : Ledger) (b : Bool) : Type 0 where
 pub before-opening : (S : Ledger) (event : LinkEvent) → IsRoomy S → (b : Bool) → begins_by S.peer.link event ≡ b → Opening S.peer.link S.moment event → BeforeOpening S b
 before-opening S event roomy true begins how = record { used = refl; outbox = omega arith }
 before-opening S event roomy false begins (Begun may number) =
-    let still : (noted S.peer.link S.moment event).number ≡ S.peer.link.number = number-noted S.peer.link S.moment event ∙ ap (λ c. cond c (S.peer.link.number + 1) S.peer.link.number) begins in
+    let still : (after_event S.peer.link S.moment event).number ≡ S.peer.link.number = number-noted S.peer.link S.moment event ∙ ap (λ c. cond c (S.peer.link.number + 1) S.peer.link.number) begins in
     absurd (omega arith)
 before-opening S event roomy false begins (Greeted may greeting number) = record {
   used = fresh-in S.peer.link.phase S.used roomy.greeting greeting;

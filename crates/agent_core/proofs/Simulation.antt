@@ -8,7 +8,7 @@ use Rattle.agent_events.specs.declared.events.Output.{Output}
 use Rattle.agent_events.specs.declared.events.Output.TheVariants.{Dropped}
 use Rattle.agent_core.specs.declared.ledger.Ledger.{Ledger}
 use Rattle.agent_core.specs.Links.{with_requests}
-use Rattle.agent_core.specs.Places.{Place, link, begins, used, base, outbox, total, is_sent, sends, is_application_request, is_base_request, is_first_request}
+use Rattle.agent_core.specs.Places.{Place, link, begins, used, base, outbox, total, is_sent, send_count, is_application_request, is_base_request, is_first_request}
 use Rattle.agent_events.specs.Kinds.{is_drain}
 use Rattle.agent_core.specs.History.{still, peer}
 use Rattle.agent_core.specs.Machine.{Next, says, drained}
@@ -41,13 +41,13 @@ stays b n k on none = ap (λ c. cond c k (n + k)) on ∙ omega arith
 pub still-follows : (ps : List Place) (m : ℕ) (S : Ledger) → StandsAt ps m S → (input : Input) → begins ps input ≡ false → is_drain input ≡ false → (outputs : List Output) → IsUnsent outputs → Follows ps m S (still S.config ps m input outputs) (says S outputs)
 still-follows ps m S stands input quiet kept outputs unsent =
     let p = still S.config ps m input outputs in
-    let base-stays : base (p ∷ ps) ≡ base ps = stays (begins ps input) (base ps) (sends is_base_request p) quiet unsent.base in
-    let used-stays : used (p ∷ ps) ≡ used ps = stays (begins ps input) (used ps) (sends is_application_request p) quiet unsent.application in
+    let base-stays : base (p ∷ ps) ≡ base ps = stays (begins ps input) (base ps) (send_count is_base_request p) quiet unsent.base in
+    let used-stays : used (p ∷ ps) ≡ used ps = stays (begins ps input) (used ps) (send_count is_application_request p) quiet unsent.application in
     let outbox-stays : outbox (p ∷ ps) ≡ outbox ps =
-    ap (λ d. cond d 0 (cond (begins ps input) (sends (λ h. true) p) (outbox ps + sends (λ h. true) p))) kept
-    ∙ stays (begins ps input) (outbox ps) (sends (λ h. true) p) quiet unsent.any
+    ap (λ d. cond d 0 (cond (begins ps input) (send_count (λ h. true) p) (outbox ps + send_count (λ h. true) p))) kept
+    ∙ stays (begins ps input) (outbox ps) (send_count (λ h. true) p) quiet unsent.any
     in
-    let total-stays : total (p ∷ ps) ≡ total ps = stays false (total ps) (sends is_first_request p) refl unsent.first in
+    let total-stays : total (p ∷ ps) ≡ total ps = stays false (total ps) (send_count is_first_request p) refl unsent.first in
     record {
       stands = record {
         moment = stands.moment;

@@ -5,7 +5,7 @@ use Rattle.std.specs.Option.{option_or, option_map_or}
 use Rattle.std.proofs.lemmas.Bool.{ne_eqb, eq-eqb}
 use Rattle.diameter_message.specs.Message.{IsHeader}
 use Rattle.agent_settings.specs.declared.config.Config.{Config}
-use Rattle.agent_core.specs.Places.{Place, Taking, now, link, begins, is_at, hop_at, rank, number, sends, used, is_application_request, header_of}
+use Rattle.agent_core.specs.Places.{Place, Taking, now, link, begins, is_at, hop_at, rank, number, send_count, used, is_application_request, header_of}
 use Rattle.peer_machine.specs.Reading.{is_application_command}
 use Rattle.agent_core.specs.Standing.{last_sent}
 use Rattle.agent_core.proofs.Orders.{Ascending}
@@ -38,7 +38,7 @@ IsUnused ps p = (p.resent ≡ []) ⊎ ((begins ps p.input ≡ true) ⊎ (used ps
 pub record Goes (ps : List Place) (p : Place) : Type 0 where
   pub later : now ps ≤ p.moment
   pub number : p.link.number ≡ cond (begins ps p.input) ((link ps).number + 1) (link ps).number
-  pub resent : length p.resent ≤ sends is_application_request p
+  pub resent : length p.resent ≤ send_count is_application_request p
   pub order : Ascending p.resent
   pub unused : IsUnused ps p
 
@@ -92,10 +92,10 @@ hop-elsewhere t p apart = ap (λ b. option_or (rank t.place 0 p.resent) (cond b 
 pub TakingFits-on : (config : Config) (ps : List Place) (p : Place) (t : Taking) → Goes ps p → is_at t.place p.taken ≡ false → TakingFits config ps t → TakingFits config (p ∷ ps) t
 TakingFits-on config ps p t goes apart fits =
     let hop = hop-elsewhere t p apart in
-    let few : (k : ℕ) → hop_at t p ≡ Some k → k < sends is_application_request p =
+    let few : (k : ℕ) → hop_at t p ≡ Some k → k < send_count is_application_request p =
     (λ k e. let h = rank-within t.place 0 p.resent k (sym hop ∙ e) in let g = goes.resent in omega arith)
     in
-    let n = numbered-by p (hop_at t p) (begins ps p.input) (last_sent ps t) (number ps t) (link ps).number (used ps) (sends is_application_request p) (record { linked = fits.linked; within = fits.within; numbered = fits.numbered }) goes.number few in
+    let n = numbered-by p (hop_at t p) (begins ps p.input) (last_sent ps t) (number ps t) (link ps).number (used ps) (send_count is_application_request p) (record { linked = fits.linked; within = fits.within; numbered = fits.numbered }) goes.number few in
     record {
       placed = let h = fits.placed in omega arith;
       linked = n.linked;

@@ -6,7 +6,7 @@ use Rattle.radius_packet.specs.declared.reasons.Reason.TheVariants as reasons
 use Rattle.diameter_message.specs.declared.fault.MessageFault.{MessageFault}
 use Rattle.diameter_message.specs.declared.header.Header.{Header}
 use Rattle.diameter_message.specs.Message.{MessageParts, message_text, parts_of, read_message}
-use Rattle.diameter_message.specs.Retransmission.{sent_again}
+use Rattle.diameter_message.specs.Retransmission.{retransmission_header}
 use Rattle.session_carrier.specs.declared.kept.Kind2.{Kind2}
 use Rattle.session_carrier.specs.declared.kept.Kind2.TheVariants.{Access, Eap, Start, Interim, Stop}
 use Rattle.session_carrier.specs.declared.kept.Kept.{Kept}
@@ -99,7 +99,7 @@ link_outputs o =
 
 -- a request that is sent again: flag T is set, and the hop is another (RFC 6733, section 3)
 abbrev pub again : List ℕ → ℕ → List ℕ
-again octets hop = message_text (sent_again (header_of octets) hop) (parts_of octets).avps
+again octets hop = message_text (retransmission_header (header_of octets) hop) (parts_of octets).avps
 
 -- each request that waits is sent again, numbered from 0
 abbrev pub resends : List Taking → List Output

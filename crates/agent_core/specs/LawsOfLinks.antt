@@ -18,7 +18,7 @@ use Rattle.agent_events.specs.declared.events.Input.TheVariants.{Up, Message, Ti
 use Rattle.agent_events.specs.declared.events.Output.{Output}
 use Rattle.agent_events.specs.declared.events.Output.TheVariants as out
 use Rattle.agent_core.specs.Links.{is_grant}
-use Rattle.agent_core.specs.Places.{Event, Place, link, begins, is_serving, header_of, is_request, is_application_request, sends, sent_on_link}
+use Rattle.agent_core.specs.Places.{Event, Place, link, begins, is_serving, header_of, is_request, is_application_request, send_count, sent_on_link}
 use Rattle.agent_core.specs.Rooms.{has_spare}
 use Rattle.agent_core.specs.History.{place, past}
 use Rattle.agent_core.specs.LawsOfSends.{IsTermination}
@@ -54,7 +54,7 @@ is_disconnect_request h = is_request h && h.command == 282
 abbrev pub NothingIsSentWithoutALink : Type 0
 NothingIsSentWithoutALink = (config : Config) (history : List Event) (e : Event)
     → (link (past config history)).phase ≡ Closed → begins (past config history) e.input ≡ false
-    → sends is_any (place config (past config history) e) ≡ 0
+    → send_count is_any (place config (past config history) e) ≡ 0
 
 -- ---- the requests of the home server
 
@@ -75,7 +75,7 @@ AnswersInput (Message octets) answer = (is_request (header_of octets) ≡ true) 
 AnswersInput input answer = ⊥
 
 pub record AnswersOnce (input : Input) (p : Place) : Type 0 where
-  pub once : sends is_answer p ≤ 1
+  pub once : send_count is_answer p ≤ 1
   pub own : EachMessage (λ octets. is_request (header_of octets) ≡ false → AnswersInput input octets) p
 
 -- a request of the home server gets at most one answer, at its own place, and no answer goes out otherwise
@@ -161,7 +161,7 @@ abbrev pub unanswered : List Place → Option ℕ
 unanswered [] = None
 unanswered (p ∷ ps) =
     if begins ps p.input || is_word ps p.input then None
-    else if nat_le 1 (sends is_watchdog_request p) then Some p.moment
+    else if nat_le 1 (send_count is_watchdog_request p) then Some p.moment
     else unanswered ps
 
 -- the place closes the link
@@ -173,7 +173,7 @@ pub record Closes (cause : LinkCause) (p : Place) : Type 0 where
 -- time has passed since a watchdog request that no word followed the link closes.
 pub record Watches (config : Config) (ps : List Place) (p : Place) : Type 0 where
   pub asks : unanswered ps ≡ None → last_word ps + config.watchdog ≤ p.moment
-      → has_spare config ps p.moment Tick ≡ true → sends is_watchdog_request p ≡ 1
+      → has_spare config ps p.moment Tick ≡ true → send_count is_watchdog_request p ≡ 1
   pub stalls : unanswered ps ≡ None → last_word ps + config.watchdog ≤ p.moment
       → has_spare config ps p.moment Tick ≡ false → Closes Stalled p
   pub closes : (asked : ℕ) → unanswered ps ≡ Some asked → asked + config.watchdog ≤ p.moment → Closes Watchdog p

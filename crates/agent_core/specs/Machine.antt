@@ -185,8 +185,8 @@ abbrev pub heard_ledger : Ledger → MessageParts → Ledger
 heard_ledger S message = record S { peer = peer_then S (Says (said_in message)) }
 
 -- where the reply of an entry goes
-abbrev pub place_of : Entry → Key
-place_of e = record { via = e.via; address = e.address; port = e.port; octets = [] }
+abbrev pub reply_key : Entry → Key
+reply_key e = record { via = e.via; address = e.address; port = e.port; octets = [] }
 
 -- the request that waits with this number has its reply, or silence; a further request is counted
 abbrev pub settled_at : Ledger → ℕ → Option (List ℕ) → Bool → Ledger
@@ -203,7 +203,7 @@ settled_ledger S message reply follows = record (settled_at S message.header.hop
 
 abbrev pub on_outcome : Ledger → MessageParts → Entry → Outcome → Next
 on_outcome S message e o =
-    says (settled_ledger S message o.reply (is_some o.follow)) (outcome_outputs (place_of e) o)
+    says (settled_ledger S message o.reply (is_some o.follow)) (outcome_outputs (reply_key e) o)
 
 -- the client of an entry is there: its place is one of the settings'
 abbrev pub on_client : Ledger → MessageParts → Entry → Option Client → Next

@@ -165,13 +165,13 @@ is_sent test (Send octets) = test (header_of octets)
 is_sent test output = false
 
 -- how many messages that meet the test go out at a place
-abbrev pub sends : (Header → Bool) → Place → ℕ
-sends test p = count_by (is_sent test) p.outputs
+abbrev pub send_count : (Header → Bool) → Place → ℕ
+send_count test p = count_by (is_sent test) p.outputs
 
 -- how many such messages went out since the present link began
 abbrev pub sent_on_link : (Header → Bool) → List Place → ℕ
 sent_on_link test [] = 0
-sent_on_link test (p ∷ ps) = if begins ps p.input then sends test p else sent_on_link test ps + sends test p
+sent_on_link test (p ∷ ps) = if begins ps p.input then send_count test p else sent_on_link test ps + send_count test p
 
 -- the application requests, and those of the base protocol
 abbrev pub used : List Place → ℕ
@@ -185,13 +185,13 @@ abbrev pub outbox : List Place → ℕ
 outbox [] = 0
 outbox (p ∷ ps) =
     if is_drain p.input then 0
-    else if begins ps p.input then sends (λ h. true) p
-    else outbox ps + sends (λ h. true) p
+    else if begins ps p.input then send_count (λ h. true) p
+    else outbox ps + send_count (λ h. true) p
 
 -- the requests since the start, without those that were sent again
 abbrev pub total : List Place → ℕ
 total [] = 0
-total (p ∷ ps) = total ps + sends is_first_request p
+total (p ∷ ps) = total ps + send_count is_first_request p
 
 -- the requests that began a session
 abbrev pub serial : List Place → ℕ

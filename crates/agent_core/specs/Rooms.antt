@@ -27,8 +27,8 @@ rooms config ps m = record {
 
 -- an answer may need a further request, so a request that is taken up leaves room for one more on the link and one more
 -- number, also when all that wait are sent again
-abbrev pub is_spent : Rooms → Bool
-is_spent r = nat_lt 2147483648 (r.used + r.waiting + 2) || r.serial == 18446744073709551615
+abbrev pub is_out_of_numbers : Rooms → Bool
+is_out_of_numbers r = nat_lt 2147483648 (r.used + r.waiting + 2) || r.serial == 18446744073709551615
 
 abbrev pub is_backed_up : Config → Rooms → Bool
 is_backed_up config r = nat_lt config.backlog (max r.outbox r.waiting + r.waiting + 2)
@@ -37,7 +37,7 @@ is_backed_up config r = nat_lt config.backlog (max r.outbox r.waiting + r.waitin
 abbrev pub refusal : Config → Rooms → Option Reason
 refusal config r =
     if not (is_serving r.phase) then Some LinkDown
-    else if is_spent r then Some Spent
+    else if is_out_of_numbers r then Some Spent
     else if r.live == config.capacity then Some Full
     else if is_backed_up config r then Some Backlog
     else None

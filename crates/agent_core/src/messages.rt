@@ -28,7 +28,7 @@ use wire_core::{NoMemory, Octets};
 
 /// What an answer leads to.
 #[derive(Drop)]
-pub(crate) enum Heard {
+pub(crate) enum AnswerEffect {
     /// Nothing but these outputs.
     Says(Outputs),
     /// The request that it matches gets this reply, or silence; a further request may follow; and these outputs go out.
@@ -62,7 +62,7 @@ fn copy_of(alloc: Global, reply: &Option<Octets>) -> Result<Option<Octets>, NoMe
 
 /// The reply, to where the request came from, and then the further request.
 fn outcome_outputs(alloc: Global, entry: &Entry, outcome: Outcome) -> Result<Outputs, NoMemory>
-    ensures { IfOk result (λ o. o ≡ history.outcome_outputs (machine.place_of entry.now) outcome) }
+    ensures { IfOk result (λ o. o ≡ history.outcome_outputs (machine.reply_key entry.now) outcome) }
 {
     let Outcome { reply, follow } = outcome;
     let mut outputs = Outputs::new(alloc);
@@ -121,7 +121,7 @@ impl Ledger {
         alloc: Global,
         entry: &Entry,
         message: &Message<'_>,
-    ) -> Result<Heard, NoMemory>
+    ) -> Result<AnswerEffect, NoMemory>
         requires limits { InLimits self.now.config }
         requires kept { KeptFits self.now.config entry.now.kept }
         ensures { IfOk result (λ h. Answers self.now entry.now (message_view message.now) h) }
@@ -133,7 +133,7 @@ impl Ledger {
         // What goes out has room for the longest packet. The copy that is kept has its own size.
         let reply = copy_of(alloc, &outcome.reply)?;
         let outputs = outcome_outputs(alloc, entry, outcome)?;
-        Ok(Heard::Settles {
+        Ok(AnswerEffect::Settles {
             outputs,
             reply,
             follows,
@@ -141,18 +141,18 @@ impl Ledger {
     }
 
     /// What an answer leads to, by the waiting request with its number on this link.
-    fn matched(&self, alloc: Global, message: &Message<'_>) -> Result<Heard, NoMemory>
+    fn matched(&self, alloc: Global, message: &Message<'_>) -> Result<AnswerEffect, NoMemory>
         requires { IsSteady self.now }
         ensures { IfOk result (λ h. Matches self.now (message_view message.now) h) }
     {
         let header = &message.header;
         match self.table.find(self.peer.link(), header.hop, self.moment) {
-            None => Ok(Heard::Says(unmatched(alloc, header)?)),
+            None => Ok(AnswerEffect::Says(unmatched(alloc, header)?)),
             Some(entry) => {
                 if header.command == command_of(entry.kept.kind) {
                     self.answered(alloc, entry, message)
                 } else {
-                    Ok(Heard::Says(unmatched(alloc, header)?))
+                    Ok(AnswerEffect::Says(unmatched(alloc, header)?))
                 }
             }
         }
@@ -207,8 +207,8 @@ impl Ledger {
         let end = self.numbers().end;
         self.peer.step(alloc, self.moment, input, spare, end)?;
         match heard {
-            Heard::Says(outputs) => Ok(outputs),
-            Heard::Settles {
+            AnswerEffect::Says(outputs) => Ok(outputs),
+            AnswerEffect::Settles {
                 outputs,
                 reply,
                 follows,

@@ -14,7 +14,7 @@ use Rattle.agent_server.specs.declared.team.SocketBack.{SocketBack}
 use Rattle.server_workers.specs.declared.workers.Worker.{Worker}
 use Rattle.server_workers.specs.declared.workers.Worker.TheVariants as worker
 use Rattle.server_workers.specs.Running.{IsLinkWorker, ReaderNeverRan}
-use Rattle.agent_server.specs.Starting.{IsAt, IsLinkReader, IsReader, IsSocketBack, IsSocketWorker}
+use Rattle.agent_server.specs.Starting.{IsPassOf, IsLinkReader, IsReader, IsSocketBack, IsSocketWorker}
 
 -- a pass with one number was joined
 pub joined-more : {C : Type 0} (n : ℕ) (k r l : Known (AgentDesk C) Input Heard) → r.numbers ≡ n ∷ [] → Joined k r l → length l.numbers ≡ length k.numbers + 1
@@ -37,16 +37,16 @@ module _ {C D I : Type 0} (turnstile : TableId) (n : ℕ) where
 
   -- the pass of the reader of a socket, which has the number that it began with
   pub back-at : (told : D → Socket) (start : Result (Worker (AgentDesk C) D I) (Worker (AgentDesk C) D I)) (back : SocketBack C D)
-      → MatchResult start (IsReader turnstile n) (IsReader turnstile n) → IsSocketBack told start back → IsAt turnstile n (table_of back.pass) (known back.pass)
+      → MatchResult start (IsReader turnstile n) (IsReader turnstile n) → IsSocketBack told start back → IsPassOf turnstile n (table_of back.pass) (known back.pass)
   back-at told (Ok (worker.Reader alloc shared pass via socket)) back at (table, reads) = (table ∙ at.0, reads.went.numbers ∙ at.1)
   back-at told (Err (worker.Reader alloc shared pass via socket)) back at is =
-      subst (λ (b : SocketBack C D). IsAt turnstile n (table_of b.pass) (known b.pass)) (sym is) at
+      subst (λ (b : SocketBack C D). IsPassOf turnstile n (table_of b.pass) (known b.pass)) (sym is) at
   back-at told (Ok (worker.Link alloc shared pass link auth acct)) back at is = absurd at
   back-at told (Err (worker.Link alloc shared pass link auth acct)) back at is = absurd at
 
   -- the pass of the reader of a link that never ran
   pub unstarted-at : (reader : Worker (AgentDesk C) D I) (back : ReaderBack (AgentDesk C) D I) → IsLinkReader turnstile n reader → ReaderNeverRan reader back
-      → IsAt turnstile n (table_of back.pass) (known back.pass)
+      → IsPassOf turnstile n (table_of back.pass) (known back.pass)
   unstarted-at (worker.Link alloc shared pass link auth acct) back at is =
-      subst (λ (b : ReaderBack (AgentDesk C) D I). IsAt turnstile n (table_of b.pass) (known b.pass)) (sym is) at
+      subst (λ (b : ReaderBack (AgentDesk C) D I). IsPassOf turnstile n (table_of b.pass) (known b.pass)) (sym is) at
   unstarted-at (worker.Reader alloc shared pass via socket) back at is = absurd at

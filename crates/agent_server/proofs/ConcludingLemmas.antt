@@ -33,7 +33,7 @@ use Rattle.server_workers.specs.declared.workers.Worker.TheVariants as worker
 use Rattle.agent_server.specs.Desks.{HasRead, StandsBy}
 use Rattle.server_workers.specs.Entries.{RunTurn, is_entry_of, is_tick, replies, replies_by, ticks}
 use Rattle.server_workers.specs.LinkReading.{LinkMayTake}
-use Rattle.server_workers.specs.Running.{Ends, Keeps, LateDrainsAreEmpty, RoseBy, RunOver, StopsFor, InOrder, counted, number_in, numbers_of, ports_in, ports_of}
+use Rattle.server_workers.specs.Running.{NoNextLink, Keeps, LateDrainsAreEmpty, RoseBy, RunOver, StopsFor, InOrder, counted, number_in, numbers_of, ports_in, ports_of}
 use Rattle.agent_server.specs.Server.{Served, status_given, twins_of}
 use Rattle.server_workers.specs.SocketReading.{AddsAtLeast, ReadsSocket, ServedSocket, SocketMayTake}
 use Rattle.server_workers.specs.Segments.{ServerTurn, is_beginning}
@@ -272,7 +272,7 @@ module _ {C D : Type 0} (told : D → Socket) where
       (starts middle starts' : ℕ) (auth acct : Socket) (k k' : Known (AgentDesk C) Input Heard) (end : RunEnd) (twins : Twins D) (past : Past I O)
       (auth_reader acct_reader : Worker (AgentDesk C) D I) (auth_back acct_back : SocketBack C D)
       → Carries (StandsBy readings) k base → RoseBy (ticks (of 0 k.seen)) dials.faults dials'.faults → dials.faults ≤ dials'.faults
-      → Ends hears speaks told end dials' dials'' (Rose starts middle) k k' twins past → StopsFor end dials''.row starts middle → starts' ≡ middle
+      → NoNextLink hears speaks told end dials' dials'' (Rose starts middle) k k' twins past → StopsFor end dials''.row starts middle → starts' ≡ middle
       → StartsFor told Auth 1 k auth auth_reader → StartsFor told Acct 2 k acct acct_reader
       → IsSocketBack told (Ok auth_reader) auth_back → IsSocketBack told (Ok acct_reader) acct_back
       → AllDone readings told hears speaks base dials dials' dials'' starts starts' auth acct k k' end twins past auth_back acct_back
@@ -281,7 +281,7 @@ module _ {C D : Type 0} (told : D → Socket) where
         carries = carries;
         dialled = dialled;
         grows = grows;
-        ends = subst (λ (n : ℕ). Ends hears speaks told end dials' dials'' (Rose starts n) k k' twins past) (sym same) ends;
+        ends = subst (λ (n : ℕ). NoNextLink hears speaks told end dials' dials'' (Rose starts n) k k' twins past) (sym same) ends;
         stops = subst (λ (n : ℕ). StopsFor end dials''.row starts n) (sym same) stops;
         auth_done = socket-done Auth 1 k auth auth_reader auth_back auth_starts auth_is;
         acct_done = socket-done Acct 2 k acct acct_reader acct_back acct_starts acct_is;

@@ -147,14 +147,14 @@ pub record Goes {C : Type 0} (readings : C → Option (List ℕ)) (old new : Age
   pub began : (H : List Event) → StandsFor old.core H → begun ≡ begins (past old.core.config H) ask
   pub until : new.until ≡ old.until
   pub moment : new.moment ≡ time
-  pub outbox : new.outbox.items ≡ unsent_with (is_drain ask) begun old.outbox.items all
+  pub send_queue : new.send_queue.items ≡ unsent_with (is_drain ask) begun old.send_queue.items all
   pub closed : new.closed ≡ closed_with begun old.closed all
   pub left : new.left ≡ (old.left || is_leave ask)
   pub entries : new.entries ≡ one_more old.entries
   pub idles : (H : List Event) → StandsFor old.core H → idle ≡ is_idle old.core.config (past old.core.config H) (record { moment = time; input = ask })
   pub sent : (before : Option Sending) (events : List Event) → HasSent before old.sender events
       → HasSent before new.sender (events ++ map event (sent_with idle (record { moment = time; input = ask })))
-  pub heard : answer ≡ made time all ask old.outbox.items old.left old.until begun old.closed
+  pub heard : answer ≡ made time all ask old.send_queue.items old.left old.until begun old.closed
 
 -- a step is a reading of the clock, room, the core's step, and what is made of it
 pub goes-by : {C : Type 0} (readings : C → Option (List ℕ)) (old mid entered new : AgentDesk C) (clock : C) (core : Ledger) (reading time outbox_was : ℕ) (ask : Input) (begun idle : Bool) (all : List Output) (answer : Heard)
@@ -179,7 +179,7 @@ goes-by readings old mid entered new clock core reading time outbox_was ask begu
       began = λ H st. began H (back H st) ∙ ap (λ (c : Ledger). begins (past c.config H) ask) same.core;
       until = tells.until ∙ enters.until ∙ same.until;
       moment = tells.moment ∙ enters.moment;
-      outbox = tells.outbox ∙ enters.outbox ∙ ap (λ (b : List Output). unsent_with (is_drain ask) begun b all) same.outbox;
+      send_queue = tells.send_queue ∙ enters.send_queue ∙ ap (λ (b : List Output). unsent_with (is_drain ask) begun b all) same.send_queue;
       closed = tells.closed ∙ enters.closed ∙ ap (λ (b : Option LinkCause). closed_with begun b all) same.closed;
       left = tells.left ∙ enters.left ∙ ap (λ (b : Bool). b || is_leave ask) same.left;
       entries = tells.entries ∙ enters.entries ∙ ap one_more same.entries;
@@ -190,7 +190,7 @@ goes-by readings old mid entered new clock core reading time outbox_was ask begu
           ∙ ap (λ (os : List Output). leaves_all ask (outbox (past mid.core.config H)) && length os == 0) as_said
           ∙ ap (λ (c : Ledger). is_idle c.config (past c.config H) e) same.core;
       sent = λ before events has. tells.sent before events (subst (λ s. HasSent before s events) (sym (enters.sender ∙ same.sender)) has);
-      heard = enters.heard ∙ rw (same.outbox, same.left, same.until, same.closed) refl;
+      heard = enters.heard ∙ rw (same.send_queue, same.left, same.until, same.closed) refl;
     }
 
 -- for a Drain nothing goes out, and it begins no link
@@ -236,16 +236,16 @@ module _ {C : Type 0} (readings : C → Option (List ℕ)) (law : PastGoesOn) wh
       let places_are : places_of base.config (turns ++ Some (ask, heard) ∷ []) ≡ p ∷ ps =
       ap (past base.config) history_is ∙ law base.config (history turns) e in
       let heard_is : heard ≡ heard_at base.until p ps =
-      go.heard ∙ ap (λ (os : List Output). made moment os ask old.outbox.items old.left old.until begun old.closed) all_is
-      ∙ made-same p.outputs (sym moment_is) (sym at.input) s.outbox s.left s.until (begun_is ∙ ap (begins ps) (sym at.input)) s.closed in
+      go.heard ∙ ap (λ (os : List Output). made moment os ask old.send_queue.items old.left old.until begun old.closed) all_is
+      ∙ made-same p.outputs (sym moment_is) (sym at.input) s.send_queue s.left s.until (begun_is ∙ ap (begins ps) (sym at.input)) s.closed in
       record {
         config = go.config ∙ s.config;
         until = go.until ∙ s.until;
         run = run-push base.config base.until [] turns ask heard s.run (heard_is ∙ ap (λ (x : Place). heard_at base.until x ps) (sym same_place));
         core = subst (StandsFor new.core) (sym history_is) (go.stands (history turns) s.core);
         moment = go.moment ∙ sym moment_is ∙ sym (ap now places_are);
-        outbox =
-            go.outbox ∙ rw (all_is, begun_is, s.outbox) refl ∙ ap (λ (x : Input). unsent_with (is_drain x) (begins ps x) (unsent ps) p.outputs) (sym at.input)
+        send_queue =
+            go.send_queue ∙ rw (all_is, begun_is, s.send_queue) refl ∙ ap (λ (x : Input). unsent_with (is_drain x) (begins ps x) (unsent ps) p.outputs) (sym at.input)
             ∙ sym (ap unsent places_are);
         closed =
             go.closed ∙ rw (all_is, begun_is, s.closed) refl ∙ ap (λ (x : Input). closed_with (begins ps x) (closed ps) p.outputs) (sym at.input)
@@ -266,9 +266,9 @@ module _ {C : Type 0} (readings : C → Option (List ℕ)) (law : PastGoesOn) wh
 
   pub stands-blank : (old new : AgentDesk C) (base : RunBase) (turns : RunTurns) (reading : ℕ) → StandsBy readings old base turns
       → Adds (readings old.clock) (readings new.clock) (reading ∷ []) → new.core ≡ old.core → new.until ≡ old.until → new.moment ≡ old.moment
-      → new.outbox.items ≡ old.outbox.items → new.closed ≡ old.closed → new.left ≡ old.left → new.entries ≡ old.entries → new.sender ≡ old.sender
+      → new.send_queue.items ≡ old.send_queue.items → new.closed ≡ old.closed → new.left ≡ old.left → new.entries ≡ old.entries → new.sender ≡ old.sender
       → StandsBy readings new base (turns ++ None ∷ [])
-  stands-blank old new base turns reading s told core until moment outbox closed_same left entries sender =
+  stands-blank old new base turns reading s told core until moment send_queue closed_same left entries sender =
       let same = history-blank turns in
       let places_are : places_of base.config (turns ++ None ∷ []) ≡ places_of base.config turns = ap (past base.config) same in
       record {
@@ -277,7 +277,7 @@ module _ {C : Type 0} (readings : C → Option (List ℕ)) (law : PastGoesOn) wh
         run = run-blank base.config base.until [] turns s.run;
         core = subst (λ (c : Ledger). StandsFor c (history (turns ++ None ∷ []))) (sym core) (subst (StandsFor old.core) (sym same) s.core);
         moment = moment ∙ s.moment ∙ sym (ap now places_are);
-        outbox = outbox ∙ s.outbox ∙ sym (ap unsent places_are);
+        send_queue = send_queue ∙ s.send_queue ∙ sym (ap unsent places_are);
         closed = closed_same ∙ s.closed ∙ sym (ap closed places_are);
         left = left ∙ s.left ∙ sym (ap has_left places_are);
         entries = entries ∙ s.entries ∙ ap (λ (H : List Event). min (length H) (2 ^ 64 - 1)) (sym same);

@@ -19,7 +19,7 @@ use Rattle.server_workers.specs.Entries.{HasLeave, EachEntry, EndsWith}
 use Rattle.server_workers.specs.LinkReading.{LinkMayTake}
 use Rattle.server_workers.specs.Running.{ClosedFor, EndsRun, HasReaders, HasSpare, LeftAtEnd, NoLeave, RunOver, StopsFor}
 use Rattle.agent_server.specs.Runs.{IsRun, closed, places_of}
-use Rattle.agent_server.specs.Server.{AreWorn, Because, IsGiven, LeavesAtEnd, Linked, MayTurn, rank, status_given}
+use Rattle.agent_server.specs.Server.{AreWorn, Because, IsGiven, LeavesAfterUntil, Linked, MayTurn, rank, status_given}
 use Rattle.server_workers.specs.Serving.{AllBut, IsTick, Span, Spanned, Spans, WasRead}
 use Rattle.server_workers.specs.Serving.Spans.{no_more, one_more}
 use Rattle.server_workers.specs.SocketReading.{ServedSocket, SocketMayTake}
@@ -186,7 +186,7 @@ module _ {I O : Type 0} (hears : I → Inlet) (speaks : O → Outlet) where
     pub linked : Linked hears speaks config pairs turns status out retries
     pub because : Because status (of 0 turns) (plain turns) (closings (places_of config (plain turns))) auth.row acct.row row refused
     pub given : IsGiven status (closings (places_of config (plain turns))) auth.row acct.row row starts starts'
-    pub leaves : 3 < rank status → ((cause : LinkCause) → ¬ AreWorn (closings (places_of config (plain turns))) cause) → LeavesAtEnd until (plain turns)
+    pub leaves : 3 < rank status → ((cause : LinkCause) → ¬ AreWorn (closings (places_of config (plain turns))) cause) → LeavesAfterUntil until (plain turns)
 
   final-asks : (a c : ℕ) (pairs : List (Pair I O)) (segs : List (List ServerTurn)) (turns : List ServerTurn) (out retries : ℕ) → Numbered turns
       → Spanned hears speaks pairs segs turns out retries → All (SocketMayTake Auth a) (of 1 turns) → All (SocketMayTake Acct c) (of 2 turns)

@@ -25,7 +25,7 @@ use Rattle.peer_machine.specs.declared.words.Act.TheVariants.{Nothing, Serve, Di
 use Rattle.peer_machine.specs.declared.words.LinkState.{LinkState}
 use Rattle.peer_machine.specs.declared.peer.PeerOutput.{PeerOutput}
 use Rattle.peer_machine.specs.Reading.{said_in}
-use Rattle.peer_machine.specs.Rules.{act_on, after, begun, heard_at, if_begun, if_past, if_room, is_past, may_begin, noted, on_begin, on_end, on_leave, on_said, on_tick, serving_tick}
+use Rattle.peer_machine.specs.Rules.{act_on, after, begun, heard_at, if_begun, if_past, if_room, is_past, may_begin, after_event, on_begin, on_end, on_leave, on_said, on_tick, serving_tick}
 use Rattle.peer_machine.specs.Step.{closed_by, is_pass, sent}
 use Rattle.agent_events.specs.declared.events.Input.{Input}
 use Rattle.agent_events.specs.declared.events.Input.TheVariants as inputs
@@ -109,7 +109,7 @@ heard-number Serving l m = refl
 heard-number Closing l m = refl
 
 -- an input itself changes the number alone
-noted-phase : (l : LinkState) (m : ℕ) (event : LinkEvent) → (noted l m event).phase ≡ l.phase
+noted-phase : (l : LinkState) (m : ℕ) (event : LinkEvent) → (after_event l m event).phase ≡ l.phase
 noted-phase l m Opens = begun-phase l m
 noted-phase l m Serves = begun-phase l m
 noted-phase l m (Says said) = heard-phase l.phase l m
@@ -118,7 +118,7 @@ noted-phase l m Ends = refl
 noted-phase l m Ticks = refl
 noted-phase l m Leaves = refl
 
-noted-number : (l : LinkState) (m : ℕ) (event : LinkEvent) → (noted l m event).number ≡ (if makes l event then l.number + 1 else l.number)
+noted-number : (l : LinkState) (m : ℕ) (event : LinkEvent) → (after_event l m event).number ≡ (if makes l event then l.number + 1 else l.number)
 noted-number l m Opens = begun-number l m
 noted-number l m Serves = begun-number l m
 noted-number l m (Says said) = heard-number l.phase l m
@@ -453,16 +453,16 @@ module _ (config : Config) (ps : List Place) (m : ℕ) where
   datagram-moves input (Ok request) none = requested-moves input request (find (λ t. same_key t.key request.key) (live config ps m)) none
 
   -- the link as its rules see it, before an input and after it
-  link-phase : (event : LinkEvent) (act : Act) → (after (noted (peer config ps).link m event) m act).phase ≡ phase_after (link ps).phase act
+  link-phase : (event : LinkEvent) (act : Act) → (after (after_event (peer config ps).link m event) m act).phase ≡ phase_after (link ps).phase act
   link-phase event act =
       let l = (peer config ps).link in
-      after-phase (noted l m event) m act ∙ ap (λ (x : Phase). phase_after x act) (noted-phase l m event)
+      after-phase (after_event l m event) m act ∙ ap (λ (x : Phase). phase_after x act) (noted-phase l m event)
 
   link-number : (event : LinkEvent) (act : Act)
-      → (after (noted (peer config ps).link m event) m act).number ≡ (if makes (peer config ps).link event then (link ps).number + 1 else (link ps).number)
+      → (after (after_event (peer config ps).link m event) m act).number ≡ (if makes (peer config ps).link event then (link ps).number + 1 else (link ps).number)
   link-number event act =
       let l = (peer config ps).link in
-      after-number (noted l m event) m act ∙ noted-number l m event
+      after-number (after_event l m event) m act ∙ noted-number l m event
 
   -- an input of the link
   linked-moves : (input : Input) (event : LinkEvent) (message : Option MessageParts) → begins ps input ≡ makes (peer config ps).link event

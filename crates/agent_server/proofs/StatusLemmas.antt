@@ -19,7 +19,7 @@ use Rattle.server_workers.specs.Entries.{HasLeave, RunTurn, is_final}
 use Rattle.server_workers.specs.Running.{LeftAtEnd, NoLeave, StopsFor}
 use Rattle.agent_server.specs.Runs.{IsRun, closed, has_left, history, places_of}
 use Rattle.agent_events.specs.Kinds.{is_leave}
-use Rattle.agent_server.specs.Server.{AreWorn, Because, HasFinished, IsGiven, LeavesAtEnd, ended_status, others, rank, status_given}
+use Rattle.agent_server.specs.Server.{AreWorn, Because, HasFinished, IsGiven, LeavesAfterUntil, ended_status, others, rank, status_given}
 use Rattle.agent_server.specs.Spans.{closings}
 use Rattle.server_workers.specs.Segments.{ServerTurn}
 use Rattle.agent_server.proofs.AskingLemmas.{All-left, Asks, leave-at, no-leave, one-leave}
@@ -32,7 +32,7 @@ use Rattle.server_workers.proofs.TurnLemmas.{of-there, plain-append}
 
 -- where the writer took the agent's leave at the end of the run, and no socket failed for good, no Leave came earlier
 left-leaves : (config : Config) (until a c : ℕ) → a ≢ 16 → c ≢ 16 → (turns : List ServerTurn) → IsRun config until (plain turns) → All (Asks a c) turns
-    → LeftAtEnd (of 0 turns) → LeavesAtEnd until (plain turns)
+    → LeftAtEnd (of 0 turns) → LeavesAfterUntil until (plain turns)
 left-leaves config until a c auth acct turns run all l front back left is =
     let m = leave-at a c auth acct turns all front back left is in
     let entry : RunTurn = Some (l.ask, l.heard) in
@@ -343,7 +343,7 @@ module _ (config : Config) (until row : ℕ) (refused : Type 0) (links : ℕ) (t
 
   -- where nothing else ended the run, the agent took its leave at its end
   pub leaves-at : (end : RunEnd) (failed : Bool) → failed ≡ ((a == 16) || (c == 16)) → At end → 3 < rank (status_given end failed last links)
-      → ((cause : LinkCause) → ¬ AreWorn causes cause) → LeavesAtEnd until (plain turns)
+      → ((cause : LinkCause) → ¬ AreWorn causes cause) → LeavesAfterUntil until (plain turns)
   leaves-at run.NoMemory failed is f high unworn = absurd (omega arith)
   leaves-at run.NoThread failed is f high unworn = absurd (omega arith)
   leaves-at run.LinkFault true is f high unworn = absurd (omega arith)

@@ -45,7 +45,7 @@ module _ {C : Type 0} (readings : C → Option (List ℕ)) where
     pub run : IsRun base.config base.until turns
     pub core : StandsFor desk.core (history turns)
     pub moment : desk.moment ≡ now (places_of base.config turns)
-    pub outbox : desk.outbox.items ≡ unsent (places_of base.config turns)
+    pub send_queue : desk.send_queue.items ≡ unsent (places_of base.config turns)
     pub closed : desk.closed ≡ closed (places_of base.config turns)
     pub left : desk.left ≡ has_left (places_of base.config turns)
     pub entries : desk.entries ≡ min (length (history turns)) (2 ^ 64 - 1)
@@ -58,7 +58,7 @@ pub record Enters {C : Type 0} (old new : AgentDesk C) (time : ℕ) (ask : Input
   pub clock : new.clock ≡ old.clock
   pub until : new.until ≡ old.until
   pub moment : new.moment ≡ time
-  pub outbox : new.outbox.items ≡ unsent_with (is_drain ask) begun old.outbox.items all
+  pub send_queue : new.send_queue.items ≡ unsent_with (is_drain ask) begun old.send_queue.items all
   pub closed : new.closed ≡ closed_with begun old.closed all
   pub left : new.left ≡ (old.left || is_leave ask)
   pub entries : new.entries ≡ one_more old.entries
@@ -66,7 +66,7 @@ pub record Enters {C : Type 0} (old new : AgentDesk C) (time : ℕ) (ask : Input
   pub heard : answer ≡ record {
     moment = time;
     outputs = others_in all;
-    sends = handed_over (is_drain ask) old.outbox.items;
+    sends = handed_over (is_drain ask) old.send_queue.items;
     finished = (old.left || is_leave ask) || nat_le old.until time;
     closed = closed_with begun old.closed all;
   }
@@ -86,7 +86,7 @@ pub record IsSame {C : Type 0} (old new : AgentDesk C) : Type 0 where
   pub clock : new.clock ≡ old.clock
   pub until : new.until ≡ old.until
   pub moment : new.moment ≡ old.moment
-  pub outbox : new.outbox.items ≡ old.outbox.items
+  pub send_queue : new.send_queue.items ≡ old.send_queue.items
   pub closed : new.closed ≡ old.closed
   pub left : new.left ≡ old.left
   pub entries : new.entries ≡ old.entries
@@ -102,7 +102,7 @@ pub record Tells {C : Type 0} (old new : AgentDesk C) (time : ℕ) (ask : Input)
   pub clock : new.clock ≡ old.clock
   pub until : new.until ≡ old.until
   pub moment : new.moment ≡ old.moment
-  pub outbox : new.outbox.items ≡ old.outbox.items
+  pub send_queue : new.send_queue.items ≡ old.send_queue.items
   pub closed : new.closed ≡ old.closed
   pub left : new.left ≡ old.left
   pub entries : new.entries ≡ old.entries

@@ -49,8 +49,8 @@ MayTurn auth acct (suc (suc (suc (suc n)))) turn = ⊥
 -- ---- when the agent takes its leave
 
 -- each Leave comes after an entry at which the moment had reached `until`
-abbrev pub LeavesAtEnd : ℕ → List RunTurn → Type 0
-LeavesAtEnd until turns =
+abbrev pub LeavesAfterUntil : ℕ → List RunTurn → Type 0
+LeavesAfterUntil until turns =
     (front back : List RunTurn) (left : Heard) → turns ≡ front ++ Some (Leave, left) ∷ back
     → (before after : List RunTurn) × ((ask : Input) × ((heard : Heard) × (front ≡ before ++ Some (ask, heard) ∷ after) × (until ≤ heard.moment)))
 
@@ -168,7 +168,7 @@ module _ {C D I O : Type 0} (readings : C → Option (List ℕ)) (told : D → S
     pub because : Because status (of 0 trail.turns) (plain trail.turns) (closings (places_of config (plain trail.turns))) auth'.row acct'.row dials'.row (Rose starts starts')
     pub given : IsGiven status (closings (places_of config (plain trail.turns))) auth'.row acct'.row dials'.row starts starts'
     pub leaves : 3 < rank status → ((cause : LinkCause) → ¬ AreWorn (closings (places_of config (plain trail.turns))) cause)
-        → LeavesAtEnd until (plain trail.turns)
+        → LeavesAfterUntil until (plain trail.turns)
 
 -- the twins of both sockets
 abbrev pub twins_of : {C D I O : Type 0} → Trail C D I O → Twins D

@@ -32,7 +32,7 @@ use Rattle.server_workers.specs.declared.workers.Worker.TheVariants as worker
 use Rattle.agent_server.specs.declared.desk.Tools.{Tools}
 use Rattle.agent_server.specs.Desks.{HasRead, HasSent, StandsBy}
 use Rattle.server_workers.specs.Entries.{EachEntry, EndsWith, ticks}
-use Rattle.server_workers.specs.Running.{Ends, IsFinishedTick, Opened, RoseBy, StopsFor}
+use Rattle.server_workers.specs.Running.{NoNextLink, IsFinishedTick, Opened, RoseBy, StopsFor}
 use Rattle.agent_server.specs.Runs.{IsRun, entries_recorded}
 use Rattle.agent_server.specs.Server.{Began}
 use Rattle.server_workers.specs.Serving.{IsTick}
@@ -109,8 +109,8 @@ FirstFails status seen before now twin = ⊥
 -- ---- workers
 
 -- a pass of this turnstile, with this one number
-abbrev pub IsAt : {C : Type 0} → TableId → ℕ → TableId → Known (AgentDesk C) Input Heard → Type 0
-IsAt turnstile number table k = (table ≡ turnstile) × (k.numbers ≡ number ∷ [])
+abbrev pub IsPassOf : {C : Type 0} → TableId → ℕ → TableId → Known (AgentDesk C) Input Heard → Type 0
+IsPassOf turnstile number table k = (table ≡ turnstile) × (k.numbers ≡ number ∷ [])
 
 -- a share of this turnstile, and a pass with this number that has seen what the writer has
 pub record IsPlace {C : Type 0} (turnstile : TableId) (number : ℕ) (k : Known (AgentDesk C) Input Heard) (share : TableId)
@@ -134,11 +134,11 @@ module _ {C D I : Type 0} where
   IsLinkReaderOf turnstile number k inlet twins (worker.Reader alloc shared pass via socket) = ⊥
 
   abbrev pub IsReader : TableId → ℕ → Worker (AgentDesk C) D I → Type 0
-  IsReader turnstile number (worker.Reader alloc shared pass via socket) = IsAt turnstile number (table_of pass) (known pass)
+  IsReader turnstile number (worker.Reader alloc shared pass via socket) = IsPassOf turnstile number (table_of pass) (known pass)
   IsReader turnstile number (worker.Link alloc shared pass link auth acct) = ⊥
 
   abbrev pub IsLinkReader : TableId → ℕ → Worker (AgentDesk C) D I → Type 0
-  IsLinkReader turnstile number (worker.Link alloc shared pass link auth acct) = IsAt turnstile number (table_of pass) (known pass)
+  IsLinkReader turnstile number (worker.Link alloc shared pass link auth acct) = IsPassOf turnstile number (table_of pass) (known pass)
   IsLinkReader turnstile number (worker.Reader alloc shared pass via socket) = ⊥
 
   abbrev pub IsSocketWorker : Worker (AgentDesk C) D I → Type 0
@@ -191,7 +191,7 @@ pub record AllDone {C D I O : Type 0} (readings : C → Option (List ℕ)) (told
   pub carries : Carries (StandsBy readings) k base
   pub dialled : RoseBy (ticks (of 0 k.seen)) dials.faults dials'.faults
   pub grows : dials.faults ≤ dials'.faults
-  pub ends : Ends hears speaks told end dials' dials'' (Rose starts starts') k k' twins past
+  pub ends : NoNextLink hears speaks told end dials' dials'' (Rose starts starts') k k' twins past
   pub stops : StopsFor end dials''.row starts starts'
   pub auth_done : SocketDone told Auth 1 k auth auth_back
   pub acct_done : SocketDone told Acct 2 k acct acct_back

@@ -36,7 +36,7 @@ pub struct AgentDesk<C> {
     until: u64,
     /// The greatest moment so far.
     moment: u64,
-    outbox: Vec<Output>,
+    send_queue: Vec<Output>,
     closed: Option<LinkCause>,
     /// Whether the agent wanted to end.
     left: bool,
@@ -131,7 +131,7 @@ impl<C: Clock> AgentDesk<C> {
             clock,
             until,
             moment: 0,
-            outbox: Vec::new(alloc),
+            send_queue: Vec::new(alloc),
             closed: None,
             left: false,
             entries: 0,
@@ -141,13 +141,13 @@ impl<C: Clock> AgentDesk<C> {
 }
 
 /// At a Drain, what was sent on the link, and from then on nothing.
-fn hand_over(alloc: Global, outbox: &mut Vec<Output>, drained: bool) -> Vec<Output>
-    ensures sends { result.items ≡ handed_over drained outbox.old.items }
-    ensures drained { drained ≡ true → outbox.new.items ≡ [] }
-    ensures kept { drained ≡ false → outbox.new ≡ outbox.old }
+fn hand_over(alloc: Global, send_queue: &mut Vec<Output>, drained: bool) -> Vec<Output>
+    ensures sends { result.items ≡ handed_over drained send_queue.old.items }
+    ensures drained { drained ≡ true → send_queue.new.items ≡ [] }
+    ensures kept { drained ≡ false → send_queue.new ≡ send_queue.old }
 {
     if drained {
-        mem::replace(outbox, Vec::new(alloc))
+        mem::replace(send_queue, Vec::new(alloc))
     } else {
         Vec::new(alloc)
     }
@@ -205,15 +205,15 @@ impl<C> AgentDesk<C> {
         }
     }
 
-    /// Makes room for what may go out for an event at this moment: in the outbox, and besides.
+    /// Makes room for what may go out for an event at this moment: in the send queue, and besides.
     fn make_room(&mut self, moment: u64) -> Result<Vec<Output>, NoMemory>
         ensures none { IfOk result (λ room. room.items ≡ []) }
         ensures room { IfOk result (λ room. (H : List Event) → StandsFor self.old.core H → (e : Event) → e.moment ≡ moment
-            → HasRoom (length self.new.outbox.items) (vec_capacity self.new.outbox) (vec_capacity room) (outputs_after self.old.core.config H e)) }
+            → HasRoom (length self.new.send_queue.items) (vec_capacity self.new.send_queue) (vec_capacity room) (outputs_after self.old.core.config H e)) }
         ensures same { IsSame self.old self.new }
     {
         let most = self.most_outputs(moment);
-        self.outbox.reserve(most)?;
+        self.send_queue.reserve(most)?;
         Ok(Vec::with_capacity(self.alloc, most)?)
     }
 
@@ -226,17 +226,17 @@ impl<C> AgentDesk<C> {
         all: Vec<Output>,
         room: Vec<Output>,
     ) -> Heard
-        ensures { room.items ≡ [] → HasRoom (length self.old.outbox.items) (vec_capacity self.old.outbox) (vec_capacity room) all.items → IsCalm (drain_test ask.now) begun all.items
+        ensures { room.items ≡ [] → HasRoom (length self.old.send_queue.items) (vec_capacity self.old.send_queue) (vec_capacity room) all.items → IsCalm (drain_test ask.now) begun all.items
             → Enters self.old self.new moment ask.now begun all.items result }
     {
         let drained = is_drain(ask);
-        let sends = hand_over(self.alloc, &mut self.outbox, drained);
+        let sends = hand_over(self.alloc, &mut self.send_queue, drained);
         self.closed = next_cause(begun, self.closed, all.as_slice());
         if begun {
-            self.outbox.clear();
+            self.send_queue.clear();
         }
         let mut others = room;
-        sort(all, &mut self.outbox, &mut others);
+        sort(all, &mut self.send_queue, &mut others);
         self.left |= is_leave(ask);
         self.moment = moment;
         self.entries = self.entries.saturating_add(1);

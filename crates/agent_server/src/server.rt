@@ -18,7 +18,7 @@ ghost use Rattle.server_workers.specs.Running.{Keeps, RoseBy, StartedAs, counted
 ghost use Rattle.agent_server.specs.Ran.{HasToldOnly, IsAny, RanFrom};
 ghost use Rattle.agent_server.specs.Runs.{entries_recorded};
 ghost use Rattle.agent_server.specs.Server.{EndsEarly, HasTrail, Served, status_given, twins_of};
-ghost use Rattle.agent_server.specs.Starting.{AllDone, BeganFrom, IsAt, IsReader, IsReady, StartsFor};
+ghost use Rattle.agent_server.specs.Starting.{AllDone, BeganFrom, IsPassOf, IsReader, IsReady, StartsFor};
 
 use crate::Worker;
 use crate::desk::{AgentDesk, DeskEnd, Tools};
@@ -157,8 +157,8 @@ where
     O: LinkOut,
     requires table { table_of pass ≡ arc_value turnstile.now }
     requires numbers { (known pass).numbers ≡ 0 ∷ 3 ∷ [] }
-    requires auth { IsAt (arc_value turnstile.now) 1 (table_of auth.pass) (known auth.pass) }
-    requires acct { IsAt (arc_value turnstile.now) 2 (table_of acct.pass) (known acct.pass) }
+    requires auth { IsPassOf (arc_value turnstile.now) 1 (table_of auth.pass) (known auth.pass) }
+    requires acct { IsPassOf (arc_value turnstile.now) 2 (table_of acct.pass) (known acct.pass) }
     ensures some { IsSome result.trail }
     ensures links { IfSome result.trail (λ trail. trail.links ≡ past.pairs.items) }
     ensures twins { IfSome result.trail (λ trail. twins_of trail ≡ twins) }

@@ -11,7 +11,7 @@ ghost use Rattle.turnstile.specs.Passes.{known, table_of};
 ghost use Rattle.turnstile.specs.Turns.{of};
 ghost use Rattle.agent_server.specs.Desks.{StandsBy};
 ghost use Rattle.server_workers.specs.Running.{RoseBy};
-ghost use Rattle.agent_server.specs.Starting.{AreShares, BeganFrom, IsAt, IsLinkReader, IsLinkReaderOf, IsReader, IsReaderOf, IsSocketBack, IsSocketWorker, IsStart};
+ghost use Rattle.agent_server.specs.Starting.{AreShares, BeganFrom, IsPassOf, IsLinkReader, IsLinkReaderOf, IsReader, IsReaderOf, IsSocketBack, IsSocketWorker, IsStart};
 ghost use Rattle.server_workers.specs.Workers.{CanRun};
 
 use crate::Worker;
@@ -48,7 +48,7 @@ fn make_workers<C: Clock + Drop, D, I>(
     requires table { table_of pass.old ≡ arc_value turnstile.now }
     requires numbers { (known pass.old).numbers ≡ 0 ∷ 1 ∷ 2 ∷ 3 ∷ [] }
     requires shares { AreShares (arc_value turnstile.now) shares }
-    ensures own { IsAt (arc_value turnstile.now) 0 (table_of pass.new) (known pass.new) }
+    ensures own { IsPassOf (arc_value turnstile.now) 0 (table_of pass.new) (known pass.new) }
     ensures same { ((known pass.new).seen ≡ (known pass.old).seen) × ((known pass.new).first ≡ (known pass.old).first) }
     ensures auth { IsReaderOf (arc_value turnstile.now) 1 Auth (known pass.new) auth result.auth }
     ensures acct { IsReaderOf (arc_value turnstile.now) 2 Acct (known pass.new) acct result.acct }
@@ -177,7 +177,7 @@ where
     requires shares { AreShares (arc_value turnstile.now) shares }
     requires rows { ((D.told auth).row ≡ 0) × ((D.told acct).row ≡ 0) }
     requires fresh { IsFreshInlet (I.told link) }
-    ensures own { IsAt (arc_value turnstile.now) 0 (table_of pass.new) (known pass.new) }
+    ensures own { IsPassOf (arc_value turnstile.now) 0 (table_of pass.new) (known pass.new) }
     ensures same { ((known pass.new).seen ≡ (known pass.old).seen) × ((known pass.new).first ≡ (known pass.old).first) }
     ensures ok { IfOk result (λ team. IsReaderOf (arc_value turnstile.now) 1 Auth (known pass.new) auth team.auth
         × IsReaderOf (arc_value turnstile.now) 2 Acct (known pass.new) acct team.acct
@@ -337,7 +337,7 @@ where
     D: Datagrams + Send + Drop + 'static,
     I: LinkIn + Send + Drop + 'static,
     W: Crew<Worker<C, D, I>>,
-    requires own { IsAt (arc_value turnstile.now) 0 (table_of pass) (known pass) }
+    requires own { IsPassOf (arc_value turnstile.now) 0 (table_of pass) (known pass) }
     requires auth { MatchResult team.auth (IsReader (arc_value turnstile.now) 1) (IsReader (arc_value turnstile.now) 1) }
     requires acct { MatchResult team.acct (IsReader (arc_value turnstile.now) 2) (IsReader (arc_value turnstile.now) 2) }
     requires link { IsLinkReader (arc_value turnstile.now) 3 team.link }

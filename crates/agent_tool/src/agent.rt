@@ -12,7 +12,7 @@ ghost use Rattle.text_commands.specs.Tasks.{EndsCounts};
 ghost use Rattle.socket_commands.specs.PeerEnds.{HomeCausedBy, HomeEnds, IsSoundHome, NasRan, TakesAll};
 ghost use Rattle.peer_runs.specs.HomeRuns.{HomeCounts};
 ghost use Rattle.text_runs.specs.TextEnds.{CountsAs, EndsAs, IsEndAs, IsSound, reads_input};
-ghost use Rattle.command_line.specs.Words.{command_of as command_of_words, is_recorded, places_of};
+ghost use Rattle.command_line.specs.Words.{parsed_command as command_of_words, is_recorded, places_of};
 ghost use Rattle.command_line.specs.declared.command.TextCommand.{TextCommand};
 ghost use Rattle.command_line.specs.declared.command.Command.TheVariants as commands;
 ghost use Rattle.command_line.specs.declared.command.Places.TheVariants as places;
@@ -20,7 +20,7 @@ ghost use Rattle.command_line.specs.declared.command.Places.TheVariants as place
 use agent_server::{Worker, World};
 use agent_status::Status;
 use command_line::{Command, Places, command_of};
-use peer_runs::Place;
+use peer_runs::Target;
 use record_text::RecordText;
 use run_record::Recorder;
 use socket_commands::{
@@ -168,7 +168,7 @@ where
                 millis,
             },
         ) => {
-            let place = Place { address, port };
+            let place = Target { address, port };
             let finish = run_nas(rt, alloc, place, millis, input, output, world);
             unrecorded(finish, tape)
         }

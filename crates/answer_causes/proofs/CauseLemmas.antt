@@ -13,7 +13,7 @@ use Rattle.translation.specs.declared.class.Class.TheVariants.{Bad, Refusal, Cha
 use Rattle.translation.specs.Acceptance.{is_acceptance}
 use Rattle.translation.specs.Answers.{class_of, has_refused_key, is_error, is_of_other_session, is_stateless}
 use Rattle.translation.specs.Pushing.{fault_from, next_number}
-use Rattle.translation.specs.Reading.{has_bad_payload, has_fault, has_key, has_unknown, holds_key, is_faulty, is_unknown, kind_of}
+use Rattle.translation.specs.Reading.{has_bad_payload, has_fault, has_key, has_unknown, holds_key, is_faulty, is_unknown, result_class}
 use Rattle.translation.specs.Replies.{fits_packet, reply_attributes}
 use Rattle.translation.proofs.ReplyImages.{fault_by_place}
 use Rattle.answer_causes.specs.declared.cause.Cause.{Cause}
@@ -96,7 +96,7 @@ pub access-is : (service : Service) (client : Client) (kept : Kept) (header : He
 unfolding class_of
 access-is service client kept header avps =
     let fits = λ (class : Class). fits_packet (reply_attributes service class kept avps) in
-    let kind = kind_of (result_code avps) in
+    let kind = result_class (result_code avps) in
     by-error (is_error header) fits _ _
     (rw (sym (unknown-is avps), sym (key-is client avps), sym (value-is kind avps))
     (access-cases fits kind (is_of_other_session kept avps) (unknown avps) (refused_key client avps) (bad_value kind avps) (has_bad_payload service kind avps) (is_stateless kind kept avps)

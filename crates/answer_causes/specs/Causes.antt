@@ -17,7 +17,7 @@ use Rattle.translation.specs.declared.class.Class.{Class}
 use Rattle.translation.specs.declared.class.Class.TheVariants.{Refusal}
 use Rattle.translation.specs.Answers.{is_error, is_of_other_session, is_stateless}
 use Rattle.translation.specs.Pushing.{next_number}
-use Rattle.translation.specs.Reading.{has_bad_payload, holds_key, is_faulty, is_unknown, kind_of}
+use Rattle.translation.specs.Reading.{has_bad_payload, holds_key, is_faulty, is_unknown, result_class}
 use Rattle.translation.specs.Replies.{fits_packet, reply_attributes}
 use Rattle.answer_causes.specs.declared.cause.Cause.{Cause}
 use Rattle.answer_causes.specs.declared.cause.Cause.TheVariants.{RottenAvps, Error, OtherSession, UnknownAvp, KeyRefused, BadValue, EapPayload, NoState, TooLong, Refused}
@@ -63,7 +63,7 @@ kind_cause kind service client kept avps =
 
 abbrev pub access_cause : Service → Client → Kept → Header → List AvpParts → Option Cause
 access_cause service client kept header avps =
-    if is_error header then too_long service Refusal kept avps else kind_cause (kind_of (result_code avps)) service client kept avps
+    if is_error header then too_long service Refusal kept avps else kind_cause (result_class (result_code avps)) service client kept avps
 
 -- ---- accounting
 

@@ -7,7 +7,7 @@ use Rattle.printed_lines.specs.Text.{is_drop, is_reply, is_send}
 use Rattle.transcript.specs.Kinds.{kind_of}
 use Rattle.transcript.specs.Reading.{At, Step, beginning, read_from, read_line, said_on, words_step}
 use Rattle.replay_command.specs.Replay.{replay_task}
-use Rattle.transcript_runs.specs.Runs.{Stage, first, places_in, stage_after}
+use Rattle.transcript_runs.specs.Runs.{Stage, first_stage, places_in, stage_after}
 use Rattle.replay_command.specs.Run.{end_text, outputs_of}
 use Rattle.journal.specs.Journal.{given_line}
 use Rattle.journal.specs.Limits.{IsShortTask}
@@ -42,7 +42,7 @@ few n small = length-decimal-le 20 n (omega arith) (omega (arith, small)) (omega
 pub replay-is-short : IsShortTask replay_task
 replay-is-short = record {
   long_is_bad = λ lines line long sound. long-from (beginning false) lines line long sound;
-  short_end = λ lines. short (stage_after first (read_from (beginning false) lines).lines);
+  short_end = λ lines. short (stage_after first_stage (read_from (beginning false) lines).lines);
 }
   where
     short : (stage : Stage) → (one : List ℕ) × ((more : List (List ℕ)) × (map given_line (lines_of (end_text stage)) ≡ one ∷ more) × (length one ≤ 140100))

@@ -5,8 +5,8 @@ use Rattle.text_lines.specs.Words.{◌>>=◌, hex_word}
 use Rattle.audit_log.specs.declared.words.AuditCommand.{AuditCommand}
 use Rattle.audit_log.specs.declared.words.AuditCommand.TheVariants.{Write, Check}
 
-abbrev pub command_named : List ℕ → Option AuditCommand
-command_named word =
+abbrev pub audit_command : List ℕ → Option AuditCommand
+audit_command word =
     if bytes_eq word (codes "write") then Some Write
     else if bytes_eq word (codes "check") then Some Check
     else None
@@ -19,9 +19,9 @@ abbrev pub key_word : List ℕ → Option (List ℕ)
 key_word word = hex_word word >>= sized_key
 
 -- write KEY, or check KEY
-abbrev pub command_of : List (String Global) → Option (AuditCommand × List ℕ)
-command_of (word ∷ key ∷ []) = do
-  command ← command_named (string_bytes word)
+abbrev pub parsed_command : List (String Global) → Option (AuditCommand × List ℕ)
+parsed_command (word ∷ key ∷ []) = do
+  command ← audit_command (string_bytes word)
   key ← key_word (string_bytes key)
   Some (command, key)
-command_of words = None
+parsed_command words = None

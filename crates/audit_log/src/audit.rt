@@ -7,7 +7,7 @@ ghost use Rattle.text_lines.specs.Words.{lines_of};
 ghost use Rattle.journal.specs.Journal.{journal_text};
 ghost use Rattle.replay_command.specs.Replay.{replay_task};
 ghost use Rattle.audit_log.specs.Ends.{AuditCounts, AuditsBy, WritesBy};
-ghost use Rattle.audit_log.specs.Words.{command_of};
+ghost use Rattle.audit_log.specs.Words.{parsed_command};
 ghost use Rattle.audit_log.specs.declared.words.AuditCommand.TheVariants.{Check, Write};
 
 use crate::status::{AuditStatus, audit_status};
@@ -79,18 +79,18 @@ pub fn audit<S: Source, K: Sink>(
     input: &mut S,
     output: &mut K,
 ) -> AuditStatus
-    ensures usage { result ≡ AuditStatus.Usage → command_of words.now ≡ None }
-    ensures refused { command_of words.now ≡ None → (result ≡ AuditStatus.Usage) ⊎ (result ≡ AuditStatus.OutOfMemory) }
-    ensures untouched { command_of words.now ≡ None → (input.new ≡ input.old) × (output.new ≡ output.old) }
-    ensures writes { (key X : List ℕ) → command_of words.now ≡ Some (Write, key) → S.left input.old ≡ Some X
+    ensures usage { result ≡ AuditStatus.Usage → parsed_command words.now ≡ None }
+    ensures refused { parsed_command words.now ≡ None → (result ≡ AuditStatus.Usage) ⊎ (result ≡ AuditStatus.OutOfMemory) }
+    ensures untouched { parsed_command words.now ≡ None → (input.new ≡ input.old) × (output.new ≡ output.old) }
+    ensures writes { (key X : List ℕ) → parsed_command words.now ≡ Some (Write, key) → S.left input.old ≡ Some X
         → WritesBy result key X (S.left input.new) (K.written output.old) (K.written output.new) }
-    ensures write_complete { (key X : List ℕ) → command_of words.now ≡ Some (Write, key) → S.left input.old ≡ Some X
+    ensures write_complete { (key X : List ℕ) → parsed_command words.now ≡ Some (Write, key) → S.left input.old ≡ Some X
         → replay_task.stop (lines_of X) ≡ None → length X ≤ most_octets
         → ¬ Rose (S.faults input.old) (S.faults input.new) → ¬ Rose (K.faults output.old) (K.faults output.new)
         → (result ≡ AuditStatus.Done) ⊎ (result ≡ AuditStatus.OutOfMemory) }
-    ensures checks { (key X : List ℕ) → command_of words.now ≡ Some (Check, key) → S.left input.old ≡ Some X
+    ensures checks { (key X : List ℕ) → parsed_command words.now ≡ Some (Check, key) → S.left input.old ≡ Some X
         → AuditsBy result key X (S.left input.new) (K.written output.old) (K.written output.new) }
-    ensures check_complete { (key X text : List ℕ) → command_of words.now ≡ Some (Check, key) → S.left input.old ≡ Some X
+    ensures check_complete { (key X text : List ℕ) → parsed_command words.now ≡ Some (Check, key) → S.left input.old ≡ Some X
         → replay_task.stop (lines_of text) ≡ None → X ≡ journal_text replay_task key (lines_of text) → length X ≤ most_octets
         → ¬ Rose (S.faults input.old) (S.faults input.new) → ¬ Rose (K.faults output.old) (K.faults output.new)
         → (result ≡ AuditStatus.Done) ⊎ (result ≡ AuditStatus.OutOfMemory) }

@@ -20,7 +20,7 @@ pub enum AuditCommand {
 
 /// The command that this word names.
 pub(crate) fn command_named(word: &str) -> Option<AuditCommand>
-    ensures { result ≡ words.command_named word.now }
+    ensures { result ≡ words.audit_command word.now }
 {
     match word {
         "write" => Some(AuditCommand::Write),

@@ -14,8 +14,8 @@ use Rattle.command_line.specs.declared.command.Command.TheVariants.{Text, Run}
 -- ---- from text to text
 
 -- one word
-abbrev pub command_named : List ℕ → Option TextCommand
-command_named word =
+abbrev pub plain_command : List ℕ → Option TextCommand
+plain_command word =
     if bytes_eq word (codes "replay") then Some Replay
     else if bytes_eq word (codes "trace") then Some Trace
     else if bytes_eq word (codes "dynamic") then Some Dynamic
@@ -95,16 +95,16 @@ server_command word address auth acct peer port millis = do
 
 -- replay, trace, dynamic, reverse, check, show, count MILLIS, generate COUNT SEED, measure COUNT SEED, home ADDRESS PORT MILLIS,
 -- nas ADDRESS PORT MILLIS, or serve or record ADDRESS AUTH ACCT PEER PEERPORT MILLIS
-abbrev pub command_of : List (String Global) → Option Command
-command_of (word ∷ []) = option_map (λ c. Text c) (command_named (string_bytes word))
-command_of (word ∷ millis ∷ []) = option_map (λ c. Text c) (counting_command (string_bytes word) (string_bytes millis))
-command_of (word ∷ count ∷ seed ∷ []) =
+abbrev pub parsed_command : List (String Global) → Option Command
+parsed_command (word ∷ []) = option_map (λ c. Text c) (plain_command (string_bytes word))
+parsed_command (word ∷ millis ∷ []) = option_map (λ c. Text c) (counting_command (string_bytes word) (string_bytes millis))
+parsed_command (word ∷ count ∷ seed ∷ []) =
     option_map (λ c. Text c) (sized_command (string_bytes word) (string_bytes count) (string_bytes seed))
-command_of (word ∷ address ∷ port ∷ millis ∷ []) =
+parsed_command (word ∷ address ∷ port ∷ millis ∷ []) =
     peer_command (string_bytes word) (string_bytes address) (string_bytes port) (string_bytes millis)
-command_of (word ∷ address ∷ auth ∷ acct ∷ peer ∷ port ∷ millis ∷ []) =
+parsed_command (word ∷ address ∷ auth ∷ acct ∷ peer ∷ port ∷ millis ∷ []) =
     server_command (string_bytes word) (string_bytes address) (string_bytes auth) (string_bytes acct) (string_bytes peer) (string_bytes port) (string_bytes millis)
-command_of words = None
+parsed_command words = None
 
 -- the places of the sockets that a command wants
 abbrev pub places_of : Option Command → Option Places

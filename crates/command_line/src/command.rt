@@ -3,7 +3,7 @@
 ghost use Rattle.std.specs.Prelude.{◌≡◌, IfSome};
 ghost use Rattle.text_lines.specs.Words.{number_word};
 ghost use Rattle.command_line.specs.declared.command.Command.{Command};
-ghost use Rattle.command_line.specs.Words.{IsSized, IsSizedCommand, command_named as named_by, counting_command as counting_by, command_of as command_of_words, command_with as made_by, count_word, millis_word, peer_at as peer_by, peer_command as peer_by_words, port_word, server_at as server_by, server_command as server_by_words, sized_command as sized_by, span_word};
+ghost use Rattle.command_line.specs.Words.{IsSized, IsSizedCommand, plain_command as named_by, counting_command as counting_by, parsed_command as command_of_words, command_with as made_by, count_word, millis_word, peer_at as peer_by, peer_command as peer_by_words, port_word, server_at as server_by, server_command as server_by_words, sized_command as sized_by, span_word};
 
 use address_text::read_address;
 use text_lines::number_in;

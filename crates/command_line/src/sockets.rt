@@ -1,7 +1,7 @@
 //! The sockets that the words of the command line want.
 
 ghost use Rattle.std.specs.Prelude.{◌≡◌};
-ghost use Rattle.command_line.specs.Words.{command_of as command_of_words, places_of};
+ghost use Rattle.command_line.specs.Words.{parsed_command as command_of_words, places_of};
 
 use crate::command::{Command, Places, command_of};
 

@@ -14,7 +14,7 @@ use Rattle.diameter_message.specs.declared.header.Header.{Header}
 use Rattle.diameter_message.specs.declared.fault.MessageFault.{MessageFault}
 use Rattle.diameter_message.specs.Message.{MessageParts, header_text, message_text, IsHeader, IsMessage, length_of, parts_of, read_message}
 use Rattle.diameter_message.specs.Writer.{MessageWriterParts, KeepsFront}
-use Rattle.diameter_message.specs.Retransmission.{sent_again}
+use Rattle.diameter_message.specs.Retransmission.{retransmission_header}
 
 pub length-header_text : (size : ℕ) (h : Header) → length (header_text size h) ≡ 20
 unfolding header_text u24 u32
@@ -188,14 +188,14 @@ length-overwritten octets once flags long e =
     omega (arith, ap length e, length-append (take 4 octets ++ flags ∷ []) (drop 5 octets), length-append (take 4 octets) (flags ∷ []), length-take-le 4 octets (omega arith), length-drop 5 octets)
 
 -- flags and hop are written over
-pub sent_again-text : (h : Header) (avps octets once bytes twice : List ℕ) (hop : ℕ) → octets ≡ message_text h avps → once ≡ take 4 octets ++ bit_or (get_or octets 4 0) 16 ∷ [] ++ drop 5 octets → bytes ≡ u32 hop → twice ≡ take 12 once ++ bytes ++ drop (12 + length bytes) once → twice ≡ message_text (sent_again h hop) avps
+pub sent_again-text : (h : Header) (avps octets once bytes twice : List ℕ) (hop : ℕ) → octets ≡ message_text h avps → once ≡ take 4 octets ++ bit_or (get_or octets 4 0) 16 ∷ [] ++ drop 5 octets → bytes ≡ u32 hop → twice ≡ take 12 once ++ bytes ++ drop (12 + length bytes) once → twice ≡ message_text (retransmission_header h hop) avps
 unfolding message_text header_text u24 u32
 sent_again-text h avps octets once bytes twice hop text first e second = second ∙ rw (first, text, e) refl
 
-pub IsMessage-sent_again : (h : Header) (avps octets : List ℕ) (hop : ℕ) → hop < 2 ^ 32 → IsMessage octets h avps → IsMessage (message_text (sent_again h hop) avps) (sent_again h hop) avps
+pub IsMessage-sent_again : (h : Header) (avps octets : List ℕ) (hop : ℕ) → hop < 2 ^ 32 → IsMessage octets h avps → IsMessage (message_text (retransmission_header h hop) avps) (retransmission_header h hop) avps
 IsMessage-sent_again h avps octets hop small is =
     let before = ap length is.text ∙ length-message_text h avps in
-    let after = length-message_text (sent_again h hop) avps in
+    let after = length-message_text (retransmission_header h hop) avps in
     record {
       header = record { flags = or_of_8 h.flags 16 is.header.flags (omega arith); command = is.header.command; application = is.header.application; hop = small; end = is.header.end };
       text = refl;

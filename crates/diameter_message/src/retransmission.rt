@@ -3,7 +3,7 @@
 ghost use Rattle.std.specs.Prelude.{◌≡◌, ℕ, List, IfOk};
 ghost use Rattle.diameter_message.specs.declared.header.Header.{Header};
 ghost use Rattle.diameter_message.specs.Message.{IsMessage, message_text};
-ghost use Rattle.diameter_message.specs.Retransmission.{sent_again};
+ghost use Rattle.diameter_message.specs.Retransmission.{retransmission_header};
 
 use crate::command_flags::RETRANSMITTED;
 use std::alloc::Global;
@@ -14,9 +14,9 @@ use wire_core::{NoMemory, Octets};
 pub fn again(alloc: Global, request: &[u8], hop: u32) -> Result<Octets, NoMemory>
     requires { (header : Header) × (avps : List ℕ) × IsMessage request.now header avps }
     ensures text { (header : Header) (avps : List ℕ) → IsMessage request.now header avps
-        → IfOk result (λ o. o ≡ message_text (sent_again header hop) avps) }
+        → IfOk result (λ o. o ≡ message_text (retransmission_header header hop) avps) }
     ensures message { (header : Header) (avps : List ℕ) → IsMessage request.now header avps
-        → IfOk result (λ o. IsMessage o (sent_again header hop) avps) }
+        → IfOk result (λ o. IsMessage o (retransmission_header header hop) avps) }
 {
     let mut octets = Octets::copy(alloc, request)?;
     octets.overwrite(4, &[request[4] | RETRANSMITTED]);

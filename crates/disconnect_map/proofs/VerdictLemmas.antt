@@ -12,10 +12,10 @@ use Rattle.radius_packet.specs.Packet.{PacketParts, IsPacket, packet_text, whole
 use Rattle.radius_packet.specs.declared.fault.PacketFault.{PacketFault}
 use Rattle.radius_packet.specs.Seals.{response_authenticator}
 use Rattle.radius_packet.proofs.Packets.{one_reading}
-use Rattle.disconnect_map.specs.Verdicts.{Answers, code_verdict, is_answer}
+use Rattle.disconnect_map.specs.Verdicts.{Answers, code_verdict, is_authentic_answer}
 
 -- a packet that is found to answer the request does
-pub answers : (secret request octets : List ℕ) (number : ℕ) (p : PacketParts) → IsPacket (whole octets) p → p.code ≡ number → is_answer secret request p ≡ true
+pub answers : (secret request octets : List ℕ) (number : ℕ) (p : PacketParts) → IsPacket (whole octets) p → p.code ≡ number → is_authentic_answer secret request p ≡ true
     → Answers secret request octets number
 answers secret request octets number p packet code found =
     let right : List ℕ = response_authenticator secret (octets_at request 4 16) (packet_text p) in
@@ -31,7 +31,7 @@ answers secret request octets number p packet code found =
 
 -- an answer to the request is found to be one
 pub is_answer-answers : (secret request octets : List ℕ) (number : ℕ) (p : PacketParts) → IsPacket (whole octets) p → Answers secret request octets number
-    → (p.code ≡ number) × (is_answer secret request p ≡ true)
+    → (p.code ≡ number) × (is_authentic_answer secret request p ≡ true)
 is_answer-answers secret request octets number p packet a =
     let right : List ℕ = response_authenticator secret (octets_at request 4 16) (packet_text p) in
     let same : a.parts ≡ p = one_reading (whole octets) a.parts p a.packet packet in
@@ -72,7 +72,7 @@ then_some_is true x y e = (refl, cc)
 then_some_is false x y e = absurd cc
 
 pub tells : (secret request octets : List ℕ) (p : PacketParts) (answer ended told : Bool) (number : ℕ) (verdict : Option Bool) → IsPacket (whole octets) p → IsCodeOf told number
-    → answer ≡ is_answer secret request p → Some ended ≡ code_verdict p.code → verdict ≡ then_some answer ended → (verdict ≡ Some told ↔ Answers secret request octets number)
+    → answer ≡ is_authentic_answer secret request p → Some ended ≡ code_verdict p.code → verdict ≡ then_some answer ended → (verdict ≡ Some told ↔ Answers secret request octets number)
 tells secret request octets p answer ended told number verdict packet means found code value = (
   λ e.
       let parts = then_some_is answer ended told (sym value ∙ e) in

@@ -23,13 +23,13 @@ abbrev pub code_verdict : ℕ → Option Bool
 code_verdict code = if code == 41 then Some true else (if code == 42 then Some false else None)
 
 -- whether a packet has the identifier and the authenticator of an answer to the request
-abbrev pub is_answer : List ℕ → List ℕ → PacketParts → Bool
-is_answer secret request p =
+abbrev pub is_authentic_answer : List ℕ → List ℕ → PacketParts → Bool
+is_authentic_answer secret request p =
     p.id == slice_index request 1
     && pointwise nat_eq p.authenticator (response_authenticator secret (octets_at request 4 16) (packet_text p))
 
 abbrev pub read_verdict : List ℕ → List ℕ → Result PacketParts PacketFault → Option Bool
-read_verdict secret request (Ok p) = if is_answer secret request p then code_verdict p.code else None
+read_verdict secret request (Ok p) = if is_authentic_answer secret request p then code_verdict p.code else None
 read_verdict secret request (Err fault) = None
 
 -- whether the client ended the session, where the datagram answers the request

@@ -15,7 +15,7 @@ const DISCONNECT_NAK: u8 = 42;
 /// Whether a packet has the identifier and the authenticator of an answer to the request.
 fn is_answer(packet: &Packet<'_>, request: &[u8], secret: &[u8]) -> bool
     requires { 20 ≤ length request.now }
-    ensures { result ≡ specs.is_answer secret.now request.now packet.now }
+    ensures { result ≡ specs.is_authentic_answer secret.now request.now packet.now }
 {
     let mut authenticator = [0; 16];
     authenticator.copy_from_slice(&request[4..20]);

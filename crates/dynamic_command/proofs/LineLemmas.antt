@@ -11,7 +11,7 @@ use Rattle.transcript.specs.declared.line.Line.TheVariants as line
 use Rattle.agent_status.specs.declared.status.Status.{Status}
 use Rattle.text_commands.specs.Transcripts.{FollowsLine, IsFailure}
 use Rattle.dynamic_command.specs.declared.session.BookSession.{BookSession}
-use Rattle.dynamic_command.specs.Dynamic.{Stage, Settings, Running, begun, dynamic_rule, first, stage_after, stage_on, text_of, told_of}
+use Rattle.dynamic_command.specs.Dynamic.{Stage, Settings, Running, begun, dynamic_rule, first_stage, stage_after, stage_on, text_of, told_of}
 use Rattle.dynamic_command.specs.Running.{CanTake, Follows, HasFollowed, IsAt}
 
 -- ---- what was told
@@ -43,7 +43,7 @@ take-at (Settings (Some c)) session (line.Control n moment address port octets) 
 pub can-take : (session : BookSession) (lines : List Line) (said : Line) → HasFollowed session lines → CanFollow (told_by lines) said
     → CanTake session.config said
 can-take session lines said at can =
-    take-at (stage_after first lines) session said at (subst (λ told. CanFollow told said) (sym (after-seen stage_on told_on told_of told-on first lines)) can)
+    take-at (stage_after first_stage lines) session said at (subst (λ told. CanFollow told said) (sym (after-seen stage_on told_on told_of told-on first_stage lines)) can)
 
 -- ---- the book is made
 
@@ -67,12 +67,12 @@ begin-at old new (Running c ps) config book at is none some counts same stands =
 -- ---- a line, after those before it
 
 pub follows-line : (r : Result Unit Status) (session : BookSession) (lines : List Line) (said : Line) (before now : Option (List ℕ))
-    → OnOk r (Follows session (stage_after first lines) said before now)
-    → AppendsPrefix before now (text_of (stage_after first lines) said) → IfErr r IsFailure
+    → OnOk r (Follows session (stage_after first_stage lines) said before now)
+    → AppendsPrefix before now (text_of (stage_after first_stage lines) said) → IfErr r IsFailure
     → FollowsLine dynamic_rule (λ ls. HasFollowed session ls) r lines said before now
 follows-line (Ok done) session lines said before now (at, wrote) part failure = (
-  subst (IsAt session) (sym (after-append stage_on first lines (said ∷ []))) at,
-  (text_of (stage_after first lines) said, given_by-more stage_on text_of first lines said, wrote),
+  subst (IsAt session) (sym (after-append stage_on first_stage lines (said ∷ []))) at,
+  (text_of (stage_after first_stage lines) said, given_by-more stage_on text_of first_stage lines said, wrote),
 )
 follows-line (Err status) session lines said before now done part failure =
-    (failure, (text_of (stage_after first lines) said, given_by-more stage_on text_of first lines said, part))
+    (failure, (text_of (stage_after first_stage lines) said, given_by-more stage_on text_of first_stage lines said, part))

@@ -122,8 +122,8 @@ told_of (Running config ps) = told.Begun
 
 -- ---- whole transcripts
 
-abbrev pub first : Stage
-first = Settings None
+abbrev pub first_stage : Stage
+first_stage = Settings None
 
 abbrev pub stage_after : Stage → List Line → Stage
 stage_after stage lines = after_lines stage_on stage lines
@@ -148,8 +148,8 @@ end_text stage =
 abbrev pub dynamic_rule : Rule
 dynamic_rule = record {
   controls = true;
-  text = λ lines. lines_text first lines;
-  close = λ lines. end_text (stage_after first lines);
+  text = λ lines. lines_text first_stage lines;
+  close = λ lines. end_text (stage_after first_stage lines);
 }
 
 -- the lines of a transcript in which control lines may stand, and what they print

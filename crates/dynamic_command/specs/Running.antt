@@ -13,7 +13,7 @@ use Rattle.transcript.specs.declared.line.Line.{Line}
 use Rattle.transcript.specs.declared.line.Line.TheVariants as line
 use Rattle.dynamic_command.specs.declared.counts.Counts.{Counts}
 use Rattle.dynamic_command.specs.declared.session.BookSession.{BookSession}
-use Rattle.dynamic_command.specs.Dynamic.{Stage, Settings, Running, book_line, first, inputs_text, is_control, is_drop, is_reply, is_send, outputs_of, places_after, ran, ran_text, stage_after, stage_on, text_of}
+use Rattle.dynamic_command.specs.Dynamic.{Stage, Settings, Running, book_line, first_stage, inputs_text, is_control, is_drop, is_reply, is_send, outputs_of, places_after, ran, ran_text, stage_after, stage_on, text_of}
 
 -- with these outputs counted too
 abbrev pub counted : Counts → List BookOutput → Counts
@@ -67,7 +67,7 @@ RunsFrom session stage number moment inputs before now =
 
 -- the session has followed these lines
 abbrev pub HasFollowed : BookSession → List Line → Type 0
-HasFollowed session lines = IsAt session (stage_after first lines)
+HasFollowed session lines = IsAt session (stage_after first_stage lines)
 
 -- the session is at the stage after the line, and what the line prints was written
 abbrev pub Follows : BookSession → Stage → Line → Option (List ℕ) → Option (List ℕ) → Type 0

@@ -4,7 +4,7 @@ use Rattle.std.proofs.lemmas.List.{append-nil}
 use Rattle.std.specs.List.{flat_map, range_with_len}
 use Rattle.wire_core.specs.Sink.{Appends, AppendsPrefix}
 use Rattle.wire_core.proofs.SinkLaws.{Appends-append, Appends-none, AppendsPrefix-append, AppendsPrefix-front, AppendsPrefix-whole}
-use Rattle.generated_logins.specs.declared.generator.Stage.TheVariants.{Agent, Request, Repeat, Answer, LateRepeat, Drain}
+use Rattle.generated_logins.specs.declared.generator.LoginStage.TheVariants.{Agent, Request, Repeat, Answer, LateRepeat, Drain}
 use Rattle.generated_logins.specs.Generator.{answer_line, draw, drain_line, generated_lines, has_bit, login_lines, next_draw, opening_lines, repeat_lines, request_line, text_of_lines}
 use Rattle.generated_logins.specs.Generating.{lines_at, logins_from}
 

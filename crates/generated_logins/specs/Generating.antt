@@ -1,12 +1,12 @@
 -- Internal: what a generator still has to give, from where it stands.
 use Rattle.std.specs.Prelude.{ℕ, zero, suc, ◌+◌, List, [], ◌∷◌, ◌++◌, Option, Some, None}
 use Rattle.generated_logins.specs.Generator.{agent_line, client_line, ready_line, opening_lines, request_line, answer_line, drain_line, repeat_lines, login_lines, next_draw}
-use Rattle.generated_logins.specs.declared.generator.Stage.{Stage}
-use Rattle.generated_logins.specs.declared.generator.Stage.TheVariants.{Agent, Client, Ready, Request, Repeat, Answer, LateRepeat, Drain}
+use Rattle.generated_logins.specs.declared.generator.LoginStage.{LoginStage}
+use Rattle.generated_logins.specs.declared.generator.LoginStage.TheVariants.{Agent, Client, Ready, Request, Repeat, Answer, LateRepeat, Drain}
 use Rattle.generated_logins.specs.declared.generator.Position.{Position}
 
 -- the line that says this, of the login with a number, for which r was drawn
-abbrev pub stage_line : Stage → ℕ → ℕ → List ℕ
+abbrev pub stage_line : LoginStage → ℕ → ℕ → List ℕ
 stage_line Agent i r = agent_line
 stage_line Client i r = client_line
 stage_line Ready i r = ready_line
@@ -17,7 +17,7 @@ stage_line LateRepeat i r = request_line i
 stage_line Drain i r = drain_line i
 
 -- that line and those after it, as far as the login goes
-abbrev pub stage_lines : Stage → ℕ → ℕ → List (List ℕ)
+abbrev pub stage_lines : LoginStage → ℕ → ℕ → List (List ℕ)
 stage_lines Agent i r = opening_lines ++ login_lines i r
 stage_lines Client i r = client_line ∷ ready_line ∷ login_lines i r
 stage_lines Ready i r = ready_line ∷ login_lines i r
@@ -33,7 +33,7 @@ logins_from zero i r = []
 logins_from (suc count) i r = login_lines i r ++ logins_from count (i + 1) (next_draw r)
 
 -- all that is to come, where so many logins come after this one
-abbrev pub lines_at : Stage → ℕ → ℕ → ℕ → List (List ℕ)
+abbrev pub lines_at : LoginStage → ℕ → ℕ → ℕ → List (List ℕ)
 lines_at stage i left r = stage_lines stage i r ++ logins_from left (i + 1) (next_draw r)
 
 abbrev pub line_at : Position → List ℕ

@@ -21,7 +21,7 @@ const READY_LINE: &str = "0 ready";
 
 /// What a line says.
 #[derive(Clone, Copy)]
-enum Stage {
+enum LoginStage {
     Agent,
     Client,
     Ready,
@@ -38,7 +38,7 @@ enum Stage {
 /// many logins come after that one, and the number that is drawn for it.
 #[derive(Clone, Copy)]
 struct Position {
-    stage: Stage,
+    stage: LoginStage,
     number: u32,
     left: u32,
     drawn: u32,
@@ -55,24 +55,26 @@ fn copied(alloc: Global, text: &str) -> Result<Vec<u8>, NoMemory>
 impl Position {
     ghost use Rattle.generated_logins.specs.Generator.{next_draw as drawn_after, request_line as line_of_request, answer_line as line_of_answer};
     ghost use Rattle.generated_logins.specs.Generating.{line_at, lines_at, lines_from, lines_left, logins_from};
-    ghost use Rattle.generated_logins.specs.declared.generator.Stage.TheVariants.{Request, Answer};
+    ghost use Rattle.generated_logins.specs.declared.generator.LoginStage.TheVariants.{Request, Answer};
 
     /// The line that stands here.
     fn line(self, alloc: Global) -> Result<Vec<u8>, NoMemory>
         ensures { IfOk result (λ line. line.items ≡ line_at self) }
     {
         match self.stage {
-            Stage::Agent => copied(alloc, AGENT_LINE),
-            Stage::Client => copied(alloc, CLIENT_LINE),
-            Stage::Ready => copied(alloc, READY_LINE),
-            Stage::Request | Stage::Repeat | Stage::LateRepeat => request_line(alloc, self.number),
-            Stage::Answer => answer_line(alloc, self.number, self.drawn),
-            Stage::Drain => drain_line(alloc, self.number),
+            LoginStage::Agent => copied(alloc, AGENT_LINE),
+            LoginStage::Client => copied(alloc, CLIENT_LINE),
+            LoginStage::Ready => copied(alloc, READY_LINE),
+            LoginStage::Request | LoginStage::Repeat | LoginStage::LateRepeat => {
+                request_line(alloc, self.number)
+            }
+            LoginStage::Answer => answer_line(alloc, self.number, self.drawn),
+            LoginStage::Drain => drain_line(alloc, self.number),
         }
     }
 
     /// Where this is said of the same login.
-    fn at(self, stage: Stage) -> Option<Position>
+    fn at(self, stage: LoginStage) -> Option<Position>
         ensures { lines_left result ≡ lines_at stage self.number self.left self.drawn }
     {
         Some(Position {
@@ -88,9 +90,9 @@ impl Position {
         ensures { lines_at Request self.number self.left self.drawn ≡ line_of_request self.number ∷ lines_left result }
     {
         if has_bit(self.drawn, 16) {
-            self.at(Stage::Repeat)
+            self.at(LoginStage::Repeat)
         } else {
-            self.at(Stage::Answer)
+            self.at(LoginStage::Answer)
         }
     }
 
@@ -99,9 +101,9 @@ impl Position {
         ensures { lines_at Answer self.number self.left self.drawn ≡ line_of_answer self.number self.drawn ∷ lines_left result }
     {
         if has_bit(self.drawn, 18) {
-            self.at(Stage::LateRepeat)
+            self.at(LoginStage::LateRepeat)
         } else {
-            self.at(Stage::Drain)
+            self.at(LoginStage::Drain)
         }
     }
 
@@ -113,7 +115,7 @@ impl Position {
             return None;
         }
         Some(Position {
-            stage: Stage::Request,
+            stage: LoginStage::Request,
             number: self.number + 1,
             left: self.left - 1,
             drawn: next_draw(self.drawn),
@@ -125,14 +127,14 @@ impl Position {
         ensures { lines_from self ≡ line_at self ∷ lines_left result }
     {
         match self.stage {
-            Stage::Agent => self.at(Stage::Client),
-            Stage::Client => self.at(Stage::Ready),
-            Stage::Ready => self.at(Stage::Request),
-            Stage::Request => self.after_request(),
-            Stage::Repeat => self.at(Stage::Answer),
-            Stage::Answer => self.after_answer(),
-            Stage::LateRepeat => self.at(Stage::Drain),
-            Stage::Drain => self.next_login(),
+            LoginStage::Agent => self.at(LoginStage::Client),
+            LoginStage::Client => self.at(LoginStage::Ready),
+            LoginStage::Ready => self.at(LoginStage::Request),
+            LoginStage::Request => self.after_request(),
+            LoginStage::Repeat => self.at(LoginStage::Answer),
+            LoginStage::Answer => self.after_answer(),
+            LoginStage::LateRepeat => self.at(LoginStage::Drain),
+            LoginStage::Drain => self.next_login(),
         }
     }
 }
@@ -163,7 +165,7 @@ impl Generator {
         ensures { result ≡ generated_lines count seed }
     {
         let first = Position {
-            stage: Stage::Agent,
+            stage: LoginStage::Agent,
             number: 0,
             left: count - 1,
             drawn: next_draw(seed),

@@ -12,8 +12,8 @@ use Rattle.journal.specs.Journal.{added, block_of, given_lines, said_line, seal_
 use Rattle.journal.specs.Limits.{IsShortTask}
 use Rattle.journal.specs.Stands.{GoesOn, HasChecked, IsAt, IsAtWork, IsSame, StepsTo}
 use Rattle.journal.specs.declared.checker.Checker.{Checker}
-use Rattle.journal.specs.declared.checker.Place.{Place}
-use Rattle.journal.specs.declared.checker.Place.TheVariants as place
+use Rattle.journal.specs.declared.checker.LinePlace.{LinePlace}
+use Rattle.journal.specs.declared.checker.LinePlace.TheVariants as place
 use Rattle.journal.specs.declared.checker.StepFault.{StepFault}
 use Rattle.journal.specs.declared.checker.StepFault.TheVariants as fault
 use Rattle.journal.proofs.BlockLemmas.{added-is, block-is, drop-front}
@@ -127,7 +127,7 @@ module _ {W : Type 0} (task : W → Task) (took : W → List (List ℕ) → Type
   }
 
   -- the line is the one that is due, or isn't
-  goes-on : (r : Result Unit StepFault) (old mid new : Checker W) (here over : Place) (due line : List ℕ) (more : List (List ℕ)) (next : Seen)
+  goes-on : (r : Result Unit StepFault) (old mid new : Checker W) (here over : LinePlace) (due line : List ℕ) (more : List (List ℕ)) (next : Seen)
       → GoesOn r due line more here over mid new → IsSame task took old mid
       → (new ≡ record mid { due = ended_text more; place = if length (ended_text more) == 0 then over else here } → IsAt task took new next)
       → StepsTo task took r (due_step next due line) old new

@@ -9,14 +9,14 @@ use Rattle.journal.specs.Due.{AreShort}
 use Rattle.journal.specs.Journal.{no_seal}
 use Rattle.journal.specs.Limits.{IsShortTask}
 use Rattle.journal.specs.declared.checker.Checker.{Checker}
-use Rattle.journal.specs.declared.checker.Place.{Place}
-use Rattle.journal.specs.declared.checker.Place.TheVariants as place
+use Rattle.journal.specs.declared.checker.LinePlace.{LinePlace}
+use Rattle.journal.specs.declared.checker.LinePlace.TheVariants as place
 use Rattle.journal.specs.declared.checker.StepFault.{StepFault}
 use Rattle.journal.specs.declared.checker.StepFault.TheVariants as fault
 
 -- ---- by what was seen
 
-abbrev pub place_of : Seen → Place
+abbrev pub place_of : Seen → LinePlace
 place_of Nothing = place.Title
 place_of (Blocks lines seal) = place.Block
 place_of (Within lines seal due more) = place.Within
@@ -73,7 +73,7 @@ module _ {W : Type 0} (task : W → Task) (took : W → List (List ℕ) → Type
     pub is_short : IsShortTask (task c.work)
 
 -- the line is the one that is due, and the next one stands here or there, or it isn't, for this reason
-abbrev pub GoesOn : {W : Type 0} → Result Unit StepFault → List ℕ → List ℕ → List (List ℕ) → Place → Place → Checker W → Checker W → Type 0
+abbrev pub GoesOn : {W : Type 0} → Result Unit StepFault → List ℕ → List ℕ → List (List ℕ) → LinePlace → LinePlace → Checker W → Checker W → Type 0
 GoesOn (Ok done) due line more here over old new =
     (bytes_eq line due ≡ true) × (new ≡ record old { due = ended_text more; place = if length (ended_text more) == 0 then over else here })
 GoesOn (Err fault.NoMemory) due line more here over old new = ⊥

@@ -22,7 +22,7 @@ const TITLE: &[u8] = b"journal 1";
 
 /// Where the next line of a journal stands.
 #[derive(Clone, Copy, PartialEq, Eq)]
-pub(crate) enum Place {
+pub(crate) enum LinePlace {
     Title,
     /// The first line of a block.
     Block,
@@ -39,7 +39,7 @@ pub(crate) enum Place {
 pub(crate) struct Checker<W> {
     work: W,
     key: Octets,
-    place: Place,
+    place: LinePlace,
     seal: [u8; 16],
     due: Due,
     /// How many lines there were. A count stands still at its end.
@@ -72,7 +72,7 @@ impl<W: Work + Drop> Checker<W> {
         Checker {
             work,
             key,
-            place: Place::Title,
+            place: LinePlace::Title,
             seal: NO_SEAL,
             due: Due::none(alloc),
             lines: 0,
@@ -94,7 +94,7 @@ impl<W: Work> Checker<W> {
         ensures { (seen : Seen) → IsAt W.task W.took self.now seen → result ≡ verdict_at (one_more self.now.lines) seen }
     {
         match self.place {
-            Place::Behind => Verdict::Yes { lines: self.said },
+            LinePlace::Behind => Verdict::Yes { lines: self.said },
             _ => Verdict::No {
                 line: self.number(),
                 reason: 4,
@@ -110,7 +110,7 @@ impl<W: Work> Checker<W> {
         if line != TITLE {
             return Err(StepFault::Bad { reason: 1 });
         }
-        self.place = Place::Block;
+        self.place = LinePlace::Block;
         Ok(())
     }
 
@@ -134,7 +134,7 @@ impl<W: Work> Checker<W> {
         self.due = Due::behind(block.text, said.len() + 3);
         self.seal = seal;
         self.said = number_after(self.said);
-        self.place = Place::Within;
+        self.place = LinePlace::Within;
         Ok(())
     }
 
@@ -151,11 +151,11 @@ impl<W: Work> Checker<W> {
             return Err(StepFault::NoMemory);
         };
         self.due = Due::behind(block.text, 0);
-        self.take_due(line, Place::Ending, Place::Behind)
+        self.take_due(line, LinePlace::Ending, LinePlace::Behind)
     }
 
     /// Takes the line that is due. The next one stands at this place, or at the other where none is due.
-    fn take_due(&mut self, line: &[u8], place: Place, over: Place) -> Result<(), StepFault>
+    fn take_due(&mut self, line: &[u8], place: LinePlace, over: LinePlace) -> Result<(), StepFault>
         ensures { (due : List ℕ) (more : List (List ℕ)) → IsUnended due → self.old.due ≡ ended_text (due ∷ more)
             → GoesOn result due line.now more place over self.old self.new }
     {
@@ -175,12 +175,12 @@ impl<W: Work> Checker<W> {
             → StepsTo W.task W.took result (checking.step (W.task self.old.work) self.old.key seen line.now) self.old self.new }
     {
         match self.place {
-            Place::Title => self.take_title(line),
-            Place::Block if line.starts_with(SAID) => self.take_said(alloc, &line[2..]),
-            Place::Block => self.take_end(alloc, line),
-            Place::Within => self.take_due(line, Place::Within, Place::Block),
-            Place::Ending => self.take_due(line, Place::Ending, Place::Behind),
-            Place::Behind => Err(StepFault::Bad { reason: 1 }),
+            LinePlace::Title => self.take_title(line),
+            LinePlace::Block if line.starts_with(SAID) => self.take_said(alloc, &line[2..]),
+            LinePlace::Block => self.take_end(alloc, line),
+            LinePlace::Within => self.take_due(line, LinePlace::Within, LinePlace::Block),
+            LinePlace::Ending => self.take_due(line, LinePlace::Ending, LinePlace::Behind),
+            LinePlace::Behind => Err(StepFault::Bad { reason: 1 }),
         }
     }
 }

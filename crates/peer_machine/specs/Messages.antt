@@ -11,8 +11,8 @@ use Rattle.peer_machine.specs.declared.words.BaseRequest.{BaseRequest}
 use Rattle.peer_machine.specs.declared.words.BaseRequest.TheVariants.{CapabilitiesExchange, DeviceWatchdog, DisconnectPeer}
 
 -- an IPv4 address: its family and its octets (section 4.3.1)
-abbrev pub address_text : ℕ → List ℕ
-address_text address = 0 ∷ 1 ∷ u32 address
+abbrev pub address_body : ℕ → List ℕ
+address_body address = 0 ∷ 1 ∷ u32 address
 
 -- Auth-Application-Id of RFC 4005 and of RFC 4072, Acct-Application-Id
 abbrev pub applications : List AvpParts
@@ -25,7 +25,7 @@ product_name = made 269 None false (codes "rd-agent")
 -- Host-IP-Address, Vendor-Id, Product-Name
 abbrev pub product : Names → List AvpParts
 product names =
-    plain_avp 257 (address_text names.address) ∷ plain_avp 266 (u32 0) ∷ product_name ∷ []
+    plain_avp 257 (address_body names.address) ∷ plain_avp 266 (u32 0) ∷ product_name ∷ []
 
 -- the product, Origin-State-Id, the applications
 abbrev pub capabilities : Names → List AvpParts

@@ -117,11 +117,11 @@ heard_at Closed l moment = l
 heard_at phase l moment = record l { heard = moment; asked = None }
 
 -- what the input itself changes
-abbrev pub noted : LinkState → ℕ → Event → LinkState
-noted l moment Opens = if_begun l moment
-noted l moment Serves = if_begun l moment
-noted l moment (Says said) = heard_at l.phase l moment
-noted l moment event = l
+abbrev pub after_event : LinkState → ℕ → Event → LinkState
+after_event l moment Opens = if_begun l moment
+after_event l moment Serves = if_begun l moment
+after_event l moment (Says said) = heard_at l.phase l moment
+after_event l moment event = l
 
 abbrev pub requested : LinkState → ℕ → BaseRequest → LinkState
 requested l moment CapabilitiesExchange = record l { phase = Greeting }

@@ -16,7 +16,7 @@ use Rattle.peer_machine.specs.declared.words.Act.TheVariants.{Discard, Pass, Clo
 use Rattle.peer_machine.specs.declared.words.LinkState.{LinkState}
 use Rattle.peer_machine.specs.Messages.{request_text, answer_text}
 use Rattle.peer_machine.specs.Reading.{said_in}
-use Rattle.peer_machine.specs.Rules.{act_on, if_room, noted, after}
+use Rattle.peer_machine.specs.Rules.{act_on, if_room, after_event, after}
 
 -- the agent's names, the watchdog's time, and the link
 pub record PeerParts : Type 0 where
@@ -63,15 +63,15 @@ HasCommand (Some m) = m.header.command < 2 ^ 24
 
 -- ---- what goes out
 
-abbrev pub answered : Names → Option MessageParts → ℕ → Bool → Option (List ℕ)
-answered names None code error = None
-answered names (Some m) code error = Some (answer_text names m code error)
+abbrev pub base_answer : Names → Option MessageParts → ℕ → Bool → Option (List ℕ)
+base_answer names None code error = None
+base_answer names (Some m) code error = Some (answer_text names m code error)
 
 -- the octets that are sent; a request has the next number of the link as its hop
 abbrev pub sent : Names → LinkState → ℕ → Option MessageParts → Act → Option (List ℕ)
 sent names l end m (Request request) = Some (request_text names request (2147483648 + l.requests) end)
-sent names l end m (Answer code error) = answered names m code error
-sent names l end m (AnswerAndClose code cause) = answered names m code false
+sent names l end m (Answer code error) = base_answer names m code error
+sent names l end m (AnswerAndClose code cause) = base_answer names m code false
 sent names l end m act = None
 
 abbrev pub is_request : Act → Bool
@@ -106,7 +106,7 @@ abbrev pub act_at : PeerParts → ℕ → Event → Bool → Act
 act_at p moment event spare = if_room spare (act_on p.link p.watchdog moment event)
 
 abbrev pub link_at : PeerParts → ℕ → Event → LinkState
-link_at p moment event = noted p.link moment event
+link_at p moment event = after_event p.link moment event
 
 -- what goes out at this effective moment, where `spare` says that one more message has room, and `end` is the
 -- End-to-End Identifier of a request

@@ -36,7 +36,7 @@ pub struct Names {
 /// Puts the address of the agent: its family, 1 for IPv4, and its octets (RFC 6733, section 4.3.1).
 fn put_address(writer: &mut MessageWriter, address: u32) -> Result<(), NoMemory>
     requires { list_length writer.old ≤ 5600 }
-    ensures { OnOk result (Puts writer.old writer.new (plain_avp 257 (specs.address_text address) ∷ []) 17) }
+    ensures { OnOk result (Puts writer.old writer.new (plain_avp 257 (specs.address_body address) ∷ []) 17) }
 {
     let mut octets = [0, 1, 0, 0, 0, 0];
     put_u32(&mut octets, 2, address);

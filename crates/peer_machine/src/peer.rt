@@ -95,7 +95,8 @@ fn answered(
     requires command { HasCommand (message_in input) }
     requires host { length names.now.host ≤ 255 }
     requires realm { length names.now.realm ≤ 255 }
-    ensures { IfOk result (λ o. o ≡ specs.answered names.now (message_in input.entry) code error) }
+    ensures { IfOk result (λ o. o
+        ≡ specs.base_answer names.now (message_in input.entry) code error) }
 {
     match input {
         PeerInput::Message(message) => Ok(Some(write_answer(alloc, names, message, code, error)?)),

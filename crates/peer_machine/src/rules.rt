@@ -281,7 +281,7 @@ fn heard_at(link: LinkState, moment: u64) -> LinkState
 /// The link with what the input itself changes.
 pub(crate) fn noted(link: LinkState, moment: u64, event: Event) -> LinkState
     requires { link.requests < 2 ^ 31 }
-    ensures state { result ≡ specs.noted link moment event }
+    ensures state { result ≡ specs.after_event link moment event }
     ensures few { result.requests < 2 ^ 31 }
 {
     match event {

@@ -12,8 +12,8 @@ use Rattle.wire_devices.proofs.TellingLaws.{Adds-append, Adds-none, Adds-same}
 use Rattle.test_peers.specs.declared.nas.NasOutput.{NasOutput}
 use Rattle.test_peers.specs.declared.nas.NasOutput.TheVariants.{Send, Wait, Reply, GaveUp}
 use Rattle.test_peers.specs.Nas.{NasParts, fresh, nas_after, output_at}
-use Rattle.peer_runs.specs.declared.asking.Place.{Place}
-use Rattle.peer_runs.specs.Asking.{Asked, Asks, BeginsWithNone, BreaksOff, Ends, EndsWith, GoesOn, Looks, Moves, Step, StepsOnce, answer_by, answer_in, asked, goes_on, moments, octets_got, output_of, received, sent, sent_by, stepped}
+use Rattle.peer_runs.specs.declared.asking.Target.{Target}
+use Rattle.peer_runs.specs.Asking.{Asked, Asks, BeginsWithNone, BreaksOff, Ends, StepsToEnd, GoesOn, Looks, Moves, Step, StepsOnce, answer_by, answer_in, asked, goes_on, moments, octets_got, output_of, received, sent, sent_by, stepped}
 
 -- ---- one step more
 
@@ -52,7 +52,7 @@ answer-push nas (first ∷ steps) step on =
     answer-on (output_of nas first) (octets_got first.got) (answer_in (stepped nas first) (steps ++ step ∷ [])) on.0
     ∙ answer-push (stepped nas first) steps step on.1
 
-sent-push : (place : Place) (nas : NasParts) (steps : List Step) (step : Step)
+sent-push : (place : Target) (nas : NasParts) (steps : List Step) (step : Step)
     → sent place nas (steps ++ step ∷ []) ≡ sent place nas steps ++ sent_by place nas.packet (output_of (after nas steps) step)
 sent-push place nas [] step = append-nil (sent_by place nas.packet (output_of nas step))
 sent-push place nas (first ∷ steps) step =
@@ -75,7 +75,7 @@ still-on o (inr is) = ap goes_on is
 -- ---- before a step, and after it
 
 -- a client that went on so far, and what its next step gets
-pub record Going (place : Place) (nas here : NasParts) (count : Option ℕ) (buf : List ℕ) (before now : Option (List ℕ)) (s t : Socket) : Type 0 where
+pub record Going (place : Target) (nas here : NasParts) (count : Option ℕ) (buf : List ℕ) (before now : Option (List ℕ)) (s t : Socket) : Type 0 where
   pub steps : List Step
   pub pending : Option Datagram
   pub begins : (step : Step) → step.got ≡ pending → BeginsWithNone (steps ++ step ∷ [])
@@ -86,7 +86,7 @@ pub record Going (place : Place) (nas here : NasParts) (count : Option ℕ) (buf
   pub moves : Moves before now s t (moments steps) (received steps ++ option_to_list pending) (sent place nas steps)
 
 -- a client that stepped, and what it did at its last step
-pub record Stepped (place : Place) (nas here : NasParts) (output : NasOutput) (got before now : Option (List ℕ)) (s t : Socket) : Type 0 where
+pub record Stepped (place : Target) (nas here : NasParts) (output : NasOutput) (got before now : Option (List ℕ)) (s t : Socket) : Type 0 where
   pub steps : List Step
   pub begins : BeginsWithNone steps
   pub at : here ≡ after nas steps
@@ -95,7 +95,7 @@ pub record Stepped (place : Place) (nas here : NasParts) (output : NasOutput) (g
   pub ends : goes_on output ≡ false → Ends nas steps
   pub answer : answer_in nas steps ≡ answer_by output got None
 
-pub going-first : (place : Place) (nas : NasParts) (buf : List ℕ) (before : Option (List ℕ)) (s : Socket) → Going place nas nas None buf before before s s
+pub going-first : (place : Target) (nas : NasParts) (buf : List ℕ) (before : Option (List ℕ)) (s : Socket) → Going place nas nas None buf before before s s
 going-first place nas buf before s = record {
   steps = [];
   pending = None;
@@ -107,7 +107,7 @@ going-first place nas buf before s = record {
   moves = record { readings = Adds-none before; received = Adds-none s.received; handed = Adds-none s.handed };
 }
 
-pub going-step : {place : Place} {nas here : NasParts} {count : Option ℕ} {buf : List ℕ} {before then : Option (List ℕ)} {s t : Socket} (here' : NasParts) (output : NasOutput) (got now : Option (List ℕ)) (u : Socket)
+pub going-step : {place : Target} {nas here : NasParts} {count : Option ℕ} {buf : List ℕ} {before then : Option (List ℕ)} {s t : Socket} (here' : NasParts) (output : NasOutput) (got now : Option (List ℕ)) (u : Socket)
     → (g : Going place nas here count buf before then s t) → got ≡ option_map (λ n. take n buf) count → StepsOnce output place here here' got then now t u
     → Stepped place nas here' output got before now s u
 going-step {place} {nas} {here} {count} {buf} {before} {then} {s} {t} here' output got now u g is once =
@@ -138,7 +138,7 @@ begins-longer : (steps : List Step) (step : Step) → BeginsWithNone steps → B
 begins-longer [] step begins = absurd begins
 begins-longer (first ∷ steps) step begins = begins
 
-pub going-look : {place : Place} {nas here : NasParts} {output : NasOutput} {got before now : Option (List ℕ)} {s t : Socket} (count : Option ℕ) (buf : List ℕ) (u : Socket)
+pub going-look : {place : Target} {nas here : NasParts} {output : NasOutput} {got before now : Option (List ℕ)} {s t : Socket} (count : Option ℕ) (buf : List ℕ) (u : Socket)
     → (g : Stepped place nas here output got before now s t) → goes_on output ≡ true → Looks count t u buf → Going place nas here count buf before now s u
 going-look {place} {nas} {here} {output} {got} {before} {now} {s} {t} count buf u g on looks = record {
   steps = g.steps;
@@ -157,7 +157,7 @@ going-look {place} {nas} {here} {output} {got} {before} {now} {s} {t} count buf 
 
 -- ---- at the end
 
-asks-one : {before now : Option (List ℕ)} {s t : Socket} (place : Place) (nas : NasParts) (patience : ℕ) (packet : List ℕ) (steps : List Step) → nas ≡ fresh packet patience
+asks-one : {before now : Option (List ℕ)} {s t : Socket} (place : Target) (nas : NasParts) (patience : ℕ) (packet : List ℕ) (steps : List Step) → nas ≡ fresh packet patience
     → Moves before now s t (moments steps) (received steps) (sent place nas steps) → Asks place patience (asked packet steps ∷ []) before now s t
 asks-one {before} {now} {s} {t} place nas patience packet steps is moves =
     let one : Asked = asked packet steps in
@@ -169,9 +169,9 @@ asks-one {before} {now} {s} {t} place nas patience packet steps is moves =
           moves.handed;
     }
 
-ends-ok : {place : Place} {nas here : NasParts} {got before now : Option (List ℕ)} {s t : Socket} (output : NasOutput) (count : Option ℕ) (buf : List ℕ)
+ends-ok : {place : Target} {nas here : NasParts} {got before now : Option (List ℕ)} {s t : Socket} (output : NasOutput) (count : Option ℕ) (buf : List ℕ)
     → (g : Stepped place nas here output got before now s t) → goes_on output ≡ false → answer_by output got None ≡ option_map (λ n. take n buf) count → IfSome count (λ n. n ≤ length buf)
-    → (patience : ℕ) (packet : List ℕ) → nas ≡ fresh packet patience → EndsWith place patience packet count before now s t buf
+    → (patience : ℕ) (packet : List ℕ) → nas ≡ fresh packet patience → StepsToEnd place patience packet count before now s t buf
 ends-ok {place} {nas} {here} {got} {before} {now} {s} {t} output count buf g over is within patience packet made = record {
   steps = g.steps;
   answered = record { begins = g.begins; ends = subst (λ n. Ends n g.steps) made (g.ends over) };
@@ -180,22 +180,22 @@ ends-ok {place} {nas} {here} {got} {before} {now} {s} {t} output count buf g ove
   within = within;
 }
 
-pub ends-reply : {place : Place} {nas here : NasParts} {got before now : Option (List ℕ)} {s t : Socket} (output : NasOutput) (count : Option ℕ) (buf : List ℕ)
+pub ends-reply : {place : Target} {nas here : NasParts} {got before now : Option (List ℕ)} {s t : Socket} (output : NasOutput) (count : Option ℕ) (buf : List ℕ)
     → (g : Stepped place nas here output got before now s t) → output ≡ Reply → got ≡ option_map (λ n. take n buf) count → IfSome count (λ n. n ≤ length buf)
-    → (patience : ℕ) (packet : List ℕ) → nas ≡ fresh packet patience → EndsWith place patience packet count before now s t buf
+    → (patience : ℕ) (packet : List ℕ) → nas ≡ fresh packet patience → StepsToEnd place patience packet count before now s t buf
 ends-reply {got = got} output count buf g is octets within =
     ends-ok output count buf g (ap goes_on is) (ap (λ o. answer_by o got None) is ∙ octets) within
 
-pub ends-none : {place : Place} {nas here : NasParts} {got before now : Option (List ℕ)} {s t : Socket} (output : NasOutput) (buf : List ℕ)
+pub ends-none : {place : Target} {nas here : NasParts} {got before now : Option (List ℕ)} {s t : Socket} (output : NasOutput) (buf : List ℕ)
     → (g : Stepped place nas here output got before now s t) → output ≡ GaveUp
-    → (patience : ℕ) (packet : List ℕ) → nas ≡ fresh packet patience → EndsWith place patience packet None before now s t buf
+    → (patience : ℕ) (packet : List ℕ) → nas ≡ fresh packet patience → StepsToEnd place patience packet None before now s t buf
 ends-none {got = got} output buf g is = ends-ok output None buf g (ap goes_on is) (ap (λ o. answer_by o got None) is) tt
 
 none-got : (got : Option Datagram) → octets_got got ≡ None → got ≡ None
 none-got None e = refl
 none-got (Some d) e = cc
 
-pub ends-err : {place : Place} {nas here : NasParts} {output : NasOutput} {got before now : Option (List ℕ)} {s t : Socket} (count : Option ℕ) (buf : List ℕ) (u : Socket)
+pub ends-err : {place : Target} {nas here : NasParts} {output : NasOutput} {got before now : Option (List ℕ)} {s t : Socket} (count : Option ℕ) (buf : List ℕ) (u : Socket)
     → (g : Stepped place nas here output got before now s t) → goes_on output ≡ true → Looks count t u buf → count ≡ None
     → (patience : ℕ) (packet : List ℕ) → nas ≡ fresh packet patience → BreaksOff place patience packet before now s u
 ends-err {place} {nas} {here} {output} {got} {before} {now} {s} {t} count buf u g on looks none patience packet made =

@@ -24,7 +24,7 @@ use Rattle.test_peers.specs.PacketLines.{packet_in}
 use Rattle.text_commands.specs.Shown.{count_after}
 use Rattle.text_commands.specs.Tasks.{EndsBy, EndsCounts, StatusOf, WorksNot, ended_text}
 use Rattle.text_commands.proofs.TaskLemmas.{Goes, ends-close, ends-fault, ends-last, ends-line, finish-err, goes-first, goes-on, last-taken, line-taken, lines-so-far, nothing-done}
-use Rattle.peer_runs.specs.declared.asking.Place.{Place}
+use Rattle.peer_runs.specs.declared.asking.Target.{Target}
 use Rattle.peer_runs.specs.Asking.{Asked, Asks, IsAnswered, moments, received, sent}
 use Rattle.test_peers.specs.Nas.{fresh}
 use Rattle.peer_runs.specs.NasRuns.{AreFor, AsksFor, AsksLine, AsksNot, IsBrokenOff, NasBy, NasEnds, line_by, nas_task, status_at}
@@ -32,10 +32,10 @@ use Rattle.peer_runs.proofs.NasLemmas.{AreAll, AreAll-push, adds, are-for, are-f
 
 -- ---- what the devices told
 
-asks-none : (place : Place) (patience : ℕ) (known : Option (List ℕ)) (s : Socket) → Asks place patience [] known known s s
+asks-none : (place : Target) (patience : ℕ) (known : Option (List ℕ)) (s : Socket) → Asks place patience [] known known s s
 asks-none place patience known s = record { readings = Adds-none known; received = Adds-none s.received; handed = Adds-none s.handed }
 
-asks-append : {before then now : Option (List ℕ)} {s t u : Socket} (place : Place) (patience : ℕ) (xs ys : List Asked) → Asks place patience xs before then s t
+asks-append : {before then now : Option (List ℕ)} {s t u : Socket} (place : Target) (patience : ℕ) (xs ys : List Asked) → Asks place patience xs before then s t
     → Asks place patience ys then now t u → Asks place patience (xs ++ ys) before now s u
 asks-append {before} {then} {now} {s} {t} {u} place patience xs ys first more = record {
   readings = subst (Adds before now) (sym (flat_map-append (λ (a : Asked). moments a.steps) xs ys)) (Adds-append first.readings more.readings);
@@ -57,13 +57,13 @@ pub record Took (clients : List Asked) (count : ℕ) (lines : List (List ℕ)) :
   pub counted : count ≡ count_after 0 lines
 
 -- the clients so far, and what was taken, written and told
-pub record RunsOn (place : Place) (patience count : ℕ) (input : Option (List ℕ)) (c : Cutting) (left output output' clock clock' : Option (List ℕ)) (s t : Socket) : Type 0 where
+pub record RunsOn (place : Target) (patience count : ℕ) (input : Option (List ℕ)) (c : Cutting) (left output output' clock clock' : Option (List ℕ)) (s t : Socket) : Type 0 where
   pub clients : List Asked
   pub answered : AllByRecursion (IsAnswered patience) clients
   pub told : Asks place patience clients clock clock' s t
   pub goes : Goes (nas_task patience clients) (Took clients count) input c left output output'
 
-pub runs-first : (place : Place) (patience : ℕ) (c : Cutting) (left output clock : Option (List ℕ)) (s : Socket) → c.held.octets ≡ [] → c.held.passed ≡ 0 → c.longest ≡ 140000
+pub runs-first : (place : Target) (patience : ℕ) (c : Cutting) (left output clock : Option (List ℕ)) (s : Socket) → c.held.octets ≡ [] → c.held.passed ≡ 0 → c.longest ≡ 140000
     → RunsOn place patience 0 left c left output output clock clock s s
 runs-first place patience c left output clock s none zero limit = record {
   clients = [];
@@ -98,7 +98,7 @@ took-one clients client count lines line took is = record {
   counted = ap one_more took.counted ∙ sym (count-push 0 lines line);
 }
 
-module _ {place : Place} {patience count : ℕ} {input left output output' clock clock' : Option (List ℕ)} {old : Cutting} {s t : Socket}
+module _ {place : Target} {patience count : ℕ} {input left output output' clock clock' : Option (List ℕ)} {old : Cutting} {s t : Socket}
     (r : RunsOn place patience count input old left output output' clock clock' s t) where
   pub runs-line : (count' : ℕ) (new : Cutting) (then output'' clock'' : Option (List ℕ)) (u : Socket) → TakesRawLine Line (rest_of old left) (rest_of new then) old new → IsUnended new.line
       → new.longest ≡ old.longest → AsksLine (Ok tt) place patience (one_more count) new.line output' output'' clock' clock'' t u → count' ≡ one_more count
@@ -156,7 +156,7 @@ not-done patience clients End status X old new left then after g takes some unen
 -- ---- the end of a run
 
 -- nothing was done
-pub ends-none : (place : Place) (patience : ℕ) (left output clock : Option (List ℕ)) (s : Socket) → NasEnds OutOfMemory place patience left left output output clock clock s s
+pub ends-none : (place : Target) (patience : ℕ) (left output clock : Option (List ℕ)) (s : Socket) → NasEnds OutOfMemory place patience left left output output clock clock s s
 ends-none place patience left output clock s = record {
   clients = [];
   last = None;
@@ -167,7 +167,7 @@ ends-none place patience left output clock s = record {
   ends = λ X is. nothing-done (nas_task patience []) (Took [] 0) (is-task patience []) left output X is;
 }
 
-module _ {place : Place} {patience count : ℕ} {input left output output' clock clock' : Option (List ℕ)} {old : Cutting} {s t : Socket}
+module _ {place : Target} {patience count : ℕ} {input left output output' clock clock' : Option (List ℕ)} {old : Cutting} {s t : Socket}
     (r : RunsOn place patience count input old left output output' clock clock' s t) where
   -- after all lines so far
   ends-so-far : (status : Status) (then : Option (List ℕ)) → IsBrokenOff status patience None
@@ -338,7 +338,7 @@ module _ {place : Place} {patience count : ℕ} {input left output output' clock
 
 -- ---- a sound input is asked for whole
 
-pub completes : {place : Place} {patience : ℕ} {input left output output' clock clock' : Option (List ℕ)} {s t : Socket} (status : Status) (X : List ℕ) (a a' b b' d d' : ℕ)
+pub completes : {place : Target} {patience : ℕ} {input left output output' clock clock' : Option (List ℕ)} {s t : Socket} (status : Status) (X : List ℕ) (a a' b b' d d' : ℕ)
     → NasEnds status place patience input left output output' clock clock' s t → input ≡ Some X
     → (status ≡ Usage → ⊥) → ((line reason : ℕ) → status ≡ BadTranscript line reason → 0 < line) → EndsCounts status a a' b b' d d'
     → (status ≡ DatagramFault → Rose s.faults t.faults)

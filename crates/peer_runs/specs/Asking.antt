@@ -8,7 +8,7 @@ use Rattle.agent_status.specs.declared.status.Status.{Status}
 use Rattle.test_peers.specs.declared.nas.NasOutput.{NasOutput}
 use Rattle.test_peers.specs.declared.nas.NasOutput.TheVariants.{Send, Wait, Reply, GaveUp}
 use Rattle.test_peers.specs.Nas.{NasParts, fresh, nas_after, output_at}
-use Rattle.peer_runs.specs.declared.asking.Place.{Place}
+use Rattle.peer_runs.specs.declared.asking.Target.{Target}
 
 -- ---- one client
 
@@ -90,13 +90,13 @@ abbrev pub received : List Step → List Datagram
 received steps = flat_map (λ s. option_to_list s.got) steps
 
 -- its packet to this place, where it sends
-abbrev pub sent_by : Place → List ℕ → NasOutput → List Datagram
+abbrev pub sent_by : Target → List ℕ → NasOutput → List Datagram
 sent_by place packet Send = datagram place.address place.port packet ∷ []
 sent_by place packet Wait = []
 sent_by place packet Reply = []
 sent_by place packet GaveUp = []
 
-abbrev pub sent : Place → NasParts → List Step → List Datagram
+abbrev pub sent : Target → NasParts → List Step → List Datagram
 sent place nas [] = []
 sent place nas (step ∷ steps) = sent_by place nas.packet (output_of nas step) ++ sent place (stepped nas step) steps
 
@@ -108,7 +108,7 @@ pub record Moves (before now : Option (List ℕ)) (s t : Socket) (times : List �
 
 -- Clients stepped one after another: the clock was read at each step, what the socket received is what the steps got, and it
 -- was handed a client's packet where that sent it.
-abbrev pub Asks : Place → ℕ → List Asked → Option (List ℕ) → Option (List ℕ) → Socket → Socket → Type 0
+abbrev pub Asks : Target → ℕ → List Asked → Option (List ℕ) → Option (List ℕ) → Socket → Socket → Type 0
 Asks place patience clients before now s t = Moves before now s t
     (flat_map (λ a. moments a.steps) clients)
     (flat_map (λ a. received a.steps) clients)
@@ -125,7 +125,7 @@ pub record Looks (count : Option ℕ) (s t : Socket) (buf : List ℕ) : Type 0 w
   pub handed : t.handed ≡ s.handed
 
 -- a step at some moment, with what was got
-pub record StepsOnce (output : NasOutput) (place : Place) (nas nas' : NasParts) (got before now : Option (List ℕ)) (s t : Socket) : Type 0 where
+pub record StepsOnce (output : NasOutput) (place : Target) (nas nas' : NasParts) (got before now : Option (List ℕ)) (s t : Socket) : Type 0 where
   pub moment : ℕ
   pub output_is : output ≡ output_at nas moment got
   pub after : nas' ≡ nas_after nas moment output
@@ -134,7 +134,7 @@ pub record StepsOnce (output : NasOutput) (place : Place) (nas nas' : NasParts) 
   pub handed : Adds s.handed t.handed (sent_by place nas.packet output)
 
 -- A client of this packet stepped to its end, with its answer as so many octets of the buffer.
-pub record EndsWith (place : Place) (patience : ℕ) (packet : List ℕ) (count : Option ℕ) (before now : Option (List ℕ)) (s t : Socket) (buf : List ℕ) : Type 0 where
+pub record StepsToEnd (place : Target) (patience : ℕ) (packet : List ℕ) (count : Option ℕ) (before now : Option (List ℕ)) (s t : Socket) (buf : List ℕ) : Type 0 where
   pub steps : List Step
   pub answered : IsAnswered patience (asked packet steps)
   pub told : Asks place patience (asked packet steps ∷ []) before now s t
@@ -142,11 +142,11 @@ pub record EndsWith (place : Place) (patience : ℕ) (packet : List ℕ) (count 
   pub within : IfSome count (λ n. n ≤ length buf)
 
 -- a client of this packet was broken off
-pub record BreaksOff (place : Place) (patience : ℕ) (packet : List ℕ) (before now : Option (List ℕ)) (s t : Socket) : Type 0 where
+pub record BreaksOff (place : Target) (patience : ℕ) (packet : List ℕ) (before now : Option (List ℕ)) (s t : Socket) : Type 0 where
   pub steps : List Step
   pub unanswered : IsUnanswered patience (asked packet steps)
   pub told : Asks place patience (asked packet steps ∷ []) before now s t
 
-abbrev pub EndsAsking : Result (Option ℕ) Status → Place → ℕ → List ℕ → Option (List ℕ) → Option (List ℕ) → Socket → Socket → List ℕ → Type 0
-EndsAsking (Ok count) place patience packet before now s t buf = EndsWith place patience packet count before now s t buf
+abbrev pub EndsAsking : Result (Option ℕ) Status → Target → ℕ → List ℕ → Option (List ℕ) → Option (List ℕ) → Socket → Socket → List ℕ → Type 0
+EndsAsking (Ok count) place patience packet before now s t buf = StepsToEnd place patience packet count before now s t buf
 EndsAsking (Err status) place patience packet before now s t buf = BreaksOff place patience packet before now s t

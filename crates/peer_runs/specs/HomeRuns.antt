@@ -12,7 +12,7 @@ use Rattle.agent_status.specs.declared.status.Status.{Status}
 use Rattle.agent_status.specs.declared.status.Status.TheVariants.{Done, BadTranscript, ReadFault, WriteFault, LinkFault, OutOfMemory, TooLong}
 use Rattle.test_peers.specs.declared.users.User.{User}
 use Rattle.test_peers.specs.declared.fault.HomeFault.TheVariants.{BadLine}
-use Rattle.test_peers.specs.Answers.{answered}
+use Rattle.test_peers.specs.Answers.{answer_by_home}
 use Rattle.test_peers.specs.Users.{users_in}
 use Rattle.text_commands.specs.WholeInput.{TakenWhole, TakesNot}
 
@@ -20,7 +20,7 @@ use Rattle.text_commands.specs.WholeInput.{TakenWhole, TakesNot}
 
 -- the answer to a message, none where it is no message or an answer itself
 abbrev pub answer_to : List User → List ℕ → Option (List ℕ)
-answer_to users message = answered users (read_message message)
+answer_to users message = answer_by_home users (read_message message)
 
 -- its octets, none where there is no answer
 abbrev pub answer_octets : List User → List ℕ → List ℕ

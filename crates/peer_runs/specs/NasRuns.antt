@@ -15,7 +15,7 @@ use Rattle.text_lines.specs.declared.raw_lines.RawFault.TheVariants as raw
 use Rattle.test_peers.specs.PacketLines.{packet_in}
 use Rattle.text_commands.specs.Shown.{Shown}
 use Rattle.text_commands.specs.Tasks.{EndsBy, Task, WritesPart}
-use Rattle.peer_runs.specs.declared.asking.Place.{Place}
+use Rattle.peer_runs.specs.declared.asking.Target.{Target}
 use Rattle.peer_runs.specs.Asking.{Asked, Asks, IsAnswered, IsUnanswered, answer_of}
 
 -- ---- lines
@@ -79,7 +79,7 @@ NasBy DatagramFault patience clients input left before now =
 NasBy status patience clients input left before now = EndsBy (nas_task patience clients) status input left before now
 
 -- Clients asked one after another, each for its line, each of them to its end but for a last one that may be broken off.
-pub record NasEnds (status : Status) (place : Place) (patience : ℕ) (input input' output output' clock clock' : Option (List ℕ)) (s t : Socket) : Type 0 where
+pub record NasEnds (status : Status) (place : Target) (patience : ℕ) (input input' output output' clock clock' : Option (List ℕ)) (s t : Socket) : Type 0 where
   pub clients : List Asked
   pub last : Option Asked
   pub answered : AllByRecursion (IsAnswered patience) clients
@@ -91,19 +91,19 @@ pub record NasEnds (status : Status) (place : Place) (patience : ℕ) (input inp
 -- ---- one line
 
 -- this client asked for this line, to its end
-pub record AsksFor (place : Place) (patience : ℕ) (line : List ℕ) (client : Asked) (before now : Option (List ℕ)) (s t : Socket) : Type 0 where
+pub record AsksFor (place : Target) (patience : ℕ) (line : List ℕ) (client : Asked) (before now : Option (List ℕ)) (s t : Socket) : Type 0 where
   pub packet : packet_in line ≡ Ok client.packet
   pub answered : IsAnswered patience client
   pub told : Asks place patience (client ∷ []) before now s t
 
 -- the same of one that was broken off
-pub record BreaksOffFor (place : Place) (patience : ℕ) (line : List ℕ) (client : Asked) (before now : Option (List ℕ)) (s t : Socket) : Type 0 where
+pub record BreaksOffFor (place : Target) (patience : ℕ) (line : List ℕ) (client : Asked) (before now : Option (List ℕ)) (s t : Socket) : Type 0 where
   pub packet : packet_in line ≡ Ok client.packet
   pub unanswered : IsUnanswered patience client
   pub told : Asks place patience (client ∷ []) before now s t
 
 -- why a line has no text: it is bad, memory is wanting, or its client was broken off
-abbrev pub AsksNot : Status → Place → ℕ → ℕ → List ℕ → Option (List ℕ) → Option (List ℕ) → Socket → Socket → Type 0
+abbrev pub AsksNot : Status → Target → ℕ → ℕ → List ℕ → Option (List ℕ) → Option (List ℕ) → Socket → Socket → Type 0
 AsksNot (BadTranscript bad reason) place patience number line before now s t =
     (bad ≡ number) × (packet_in line ≡ Err reason) × Asks place patience [] before now s t
 AsksNot OutOfMemory place patience number line before now s t =
@@ -113,13 +113,13 @@ AsksNot DatagramFault place patience number line before now s t =
 AsksNot status place patience number line before now s t = ⊥
 
 -- the text of the line of this number
-abbrev pub AsksText : Result (List ℕ) Status → Place → ℕ → ℕ → List ℕ → Option (List ℕ) → Option (List ℕ) → Socket → Socket → Type 0
+abbrev pub AsksText : Result (List ℕ) Status → Target → ℕ → ℕ → List ℕ → Option (List ℕ) → Option (List ℕ) → Socket → Socket → Type 0
 AsksText (Ok text) place patience number line before now s t =
     (client : Asked) × (text ≡ line_by patience client) × AsksFor place patience line client before now s t
 AsksText (Err status) place patience number line before now s t = AsksNot status place patience number line before now s t
 
 -- what was written for it
-abbrev pub AsksLine : Result Unit Status → Place → ℕ → ℕ → List ℕ → Option (List ℕ) → Option (List ℕ) → Option (List ℕ) → Option (List ℕ) → Socket → Socket → Type 0
+abbrev pub AsksLine : Result Unit Status → Target → ℕ → ℕ → List ℕ → Option (List ℕ) → Option (List ℕ) → Option (List ℕ) → Option (List ℕ) → Socket → Socket → Type 0
 AsksLine (Ok done) place patience number line output output' before now s t =
     (client : Asked) × Appends output output' (line_by patience client) × AsksFor place patience line client before now s t
 AsksLine (Err WriteFault) place patience number line output output' before now s t =

@@ -17,7 +17,7 @@ const MOST_FAILURES: u8 = 16;
 
 /// Where the packets are sent.
 #[derive(Clone, Copy, PartialEq, Eq)]
-pub struct Place {
+pub struct Target {
     /// An IPv4 address.
     pub address: u32,
     pub port: u16,
@@ -66,7 +66,7 @@ pub(crate) fn front(buf: &[u8], count: Option<usize>) -> Option<&[u8]>
 fn step_once<C: Clock, D: Datagrams>(
     nas: &mut Nas,
     got: Option<&[u8]>,
-    place: Place,
+    place: Target,
     clock: &mut C,
     socket: &mut D,
 ) -> NasOutput
@@ -86,7 +86,7 @@ fn step_once<C: Clock, D: Datagrams>(
 pub(crate) fn ask<R: Wait, C: Clock, D: Datagrams>(
     rt: &R,
     nas: &mut Nas,
-    place: Place,
+    place: Target,
     buf: &mut [u8],
     failures: &mut u8,
     clock: &mut C,

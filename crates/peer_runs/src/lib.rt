@@ -5,6 +5,6 @@ mod asking;
 mod home_run;
 mod nas_run;
 
-pub use asking::Place;
+pub use asking::Target;
 pub use home_run::{HomeEnd, home};
 pub use nas_run::nas;

@@ -13,7 +13,7 @@ ghost use Rattle.text_commands.specs.Shown.{ShowsNot};
 ghost use Rattle.text_commands.specs.Tasks.{EndsCounts};
 ghost use Rattle.peer_runs.specs.NasRuns.{AsksLine, AsksText, NasEnds, answer_text, status_at};
 
-use crate::asking::{Place, ask, front};
+use crate::asking::{Target, ask, front};
 use agent_status::Status;
 use std::alloc::Global;
 use std::sync::Wait;
@@ -81,7 +81,7 @@ fn answer_line(alloc: Global, answer: Option<&[u8]>) -> Result<Octets, NoMemory>
 fn ask_text<R: Wait, C: Clock, D: Datagrams>(
     rt: &R,
     alloc: Global,
-    place: Place,
+    place: Target,
     patience: u64,
     number: u64,
     line: &[u8],
@@ -118,7 +118,7 @@ fn ask_text<R: Wait, C: Clock, D: Datagrams>(
 fn ask_line<R: Wait, K: Sink, C: Clock, D: Datagrams>(
     rt: &R,
     alloc: Global,
-    place: Place,
+    place: Target,
     patience: u64,
     line: &[u8],
     buf: &mut [u8],
@@ -185,7 +185,7 @@ fn fault_status(lines: u64, fault: RawFault) -> Status
 pub fn nas<R: Wait, S: Source, K: Sink, C: Clock, D: Datagrams>(
     rt: &R,
     alloc: Global,
-    place: Place,
+    place: Target,
     patience: u64,
     input: &mut S,
     output: &mut K,

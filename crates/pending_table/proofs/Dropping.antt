@@ -4,8 +4,8 @@ use Rattle.std.specs.List.{AllByRecursion}
 use Rattle.pending_table.specs.declared.key.Key.{Key}
 use Rattle.pending_table.specs.declared.stores.Stores.{Stores}
 use Rattle.pending_table.specs.declared.stores.Number.{Number}
-use Rattle.pending_table.specs.declared.stores.Place.{Place}
-use Rattle.pending_table.specs.declared.stores.Place.TheVariants.{Waiting, Settled}
+use Rattle.pending_table.specs.declared.stores.RowPlace.{RowPlace}
+use Rattle.pending_table.specs.declared.stores.RowPlace.TheVariants.{Waiting, Settled}
 use Rattle.pending_table.specs.Table.{Row, same_key, is_live as entry_is_live}
 use Rattle.pending_table.specs.Merged.{Held, rows, Pairs}
 use Rattle.pending_table.specs.Stores.{CountedFrom, is_live, is_first_dead, same_number, number_of, ends_before}
@@ -60,7 +60,7 @@ settled_apart a b less e = let k : a ≡ b = cc in omega (arith, k, less)
 kinds_apart : (a b : ℕ) → Waiting a ≢ Settled b
 kinds_apart a b e = absurd cc
 
-module _ (f g : Key → Option Place) (k : Key) (updates : (r : Key) → g r ≡ cond (same_key k r) None (f r)) where
+module _ (f g : Key → Option RowPlace) (k : Key) (updates : (r : Key) → g r ≡ cond (same_key k r) None (f r)) where
   -- a row that waits is dropped: the settled ones and the later ones keep their hints
   pub counted-waiting : (serial : ℕ) → f k ≡ Some (Waiting serial) → (n : ℕ) (xs : List Held) → CountedFrom f n xs → CountedFrom g n xs
   counted-waiting serial at n [] h = h

@@ -11,8 +11,8 @@ use Rattle.std.specs.BTreeMap.{BTreeMap, insert_entry}
 use Rattle.pending_table.specs.declared.key.Key.{Key}
 use Rattle.pending_table.specs.declared.stores.Stores.{Stores}
 use Rattle.pending_table.specs.declared.stores.Number.{Number}
-use Rattle.pending_table.specs.declared.stores.Place.{Place}
-use Rattle.pending_table.specs.declared.stores.Place.TheVariants.{Waiting}
+use Rattle.pending_table.specs.declared.stores.RowPlace.{RowPlace}
+use Rattle.pending_table.specs.declared.stores.RowPlace.TheVariants.{Waiting}
 use Rattle.pending_table.specs.Table.{Row, same_key, is_waiting}
 use Rattle.pending_table.specs.Merged.{Held, rows, Pairs}
 use Rattle.pending_table.specs.KeyLaws.{same_key_equiv}
@@ -122,7 +122,7 @@ drafts-draft n r (p ∷ ps) below = let e : nat_lt p.0 n ≡ true = grind (arith
 
 -- indexes and a store with the same entries and as much room
 pub kept-room :
-    (s : Stores) (keys : HashMap Key Place RandomState) (numbers : HashMap Number ℕ RandomState) (settled : VecDeque Held Global)
+    (s : Stores) (keys : HashMap Key RowPlace RandomState) (numbers : HashMap Number ℕ RandomState) (settled : VecDeque Held Global)
     → IsKept s
     → keys.entries ≡ s.keys.entries
     → numbers.entries ≡ s.numbers.entries
@@ -211,7 +211,7 @@ same_number-symm a b =
     (λ e. ap (λ n. same_number n b) (sym (same_number-equal b a e)) ∙ same_number-refl b)
 
 -- another key than the one that is put in keeps what it leads to
-module _ (f g : Key → Option Place) (k : Key) (place : Place) (updates : (q : Key) → g q ≡ cond (same_key k q) (Some place) (f q)) where
+module _ (f g : Key → Option RowPlace) (k : Key) (place : RowPlace) (updates : (q : Key) → g q ≡ cond (same_key k q) (Some place) (f q)) where
   put-other : (q : Key) → same_key q k ≡ false → g q ≡ f q
   put-other q other = updates q ∙ ap (λ b. cond b (Some place) (f q)) (same_key_equiv.symm k q ∙ other)
 
@@ -248,7 +248,7 @@ module _ (f g : Number → Option ℕ) (k : Number) (serial : ℕ) (updates : (q
       (λ p other hint. number-other (number_of p.1) other ∙ hint)
 
 pub kept-entered :
-    (s : Stores) (keys : HashMap Key Place RandomState) (numbers : HashMap Number ℕ RandomState) (r : Row)
+    (s : Stores) (keys : HashMap Key RowPlace RandomState) (numbers : HashMap Number ℕ RandomState) (r : Row)
     → IsKept s
     → drafts s ≡ (s.next, r) ∷ []
     → CanFollow s (waits s) s.settled.items r

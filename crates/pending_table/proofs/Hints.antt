@@ -9,8 +9,8 @@ use Rattle.std.specs.Ordering.{nat_cmp}
 use Rattle.pending_table.specs.declared.key.Key.{Key}
 use Rattle.pending_table.specs.declared.stores.Stores.{Stores}
 use Rattle.pending_table.specs.declared.stores.Number.{Number}
-use Rattle.pending_table.specs.declared.stores.Place.{Place}
-use Rattle.pending_table.specs.declared.stores.Place.TheVariants.{Waiting, Settled}
+use Rattle.pending_table.specs.declared.stores.RowPlace.{RowPlace}
+use Rattle.pending_table.specs.declared.stores.RowPlace.TheVariants.{Waiting, Settled}
 use Rattle.pending_table.specs.Table.{Row, same_key}
 use Rattle.pending_table.specs.Merged.{Held, put, merged, rows, Pairs}
 use Rattle.pending_table.specs.Stores.{Within, IsOnly, IsKept, IsWhole, CountedFrom, waits, all, passing, by_key, row_at, waiting_at, settled_at, same_number}
@@ -201,7 +201,7 @@ within-settled s i r [] e = absurd cc
 within-settled s zero r (x ∷ xs) e = inl (cc)
 within-settled s (suc i) r (x ∷ xs) e = inr (within-settled s i r xs e)
 
-within_row : (s : Stores) → IsWhole s → (place : Place) (r : Row) → row_at s place ≡ Some r → Within r (all s)
+within_row : (s : Stores) → IsWhole s → (place : RowPlace) (r : Row) → row_at s place ≡ Some r → Within r (all s)
 within_row s whole (Waiting serial) r e =
     within-merged r (waits s) s.settled.items (inl (subst (λ ps. Within r (rows ps)) (sym whole) (within-lookup (is_at (nat_cmp serial)) s.waiting.entries r e)))
 within_row s whole (Settled count) r e = by (nat_lt count s.dropped) e
@@ -223,6 +223,6 @@ only_by_key s h whole key =
     named (r ∷ rs) all =
         ((λ e. subst (λ k. option_and_then (row_at s) (get same_key s.keys k) ≡ Some r) (same_key-equal r.0 key e) all.0), named rs all.1)
 
-    within : (place : Option Place) (r : Row) → option_and_then (row_at s) place ≡ Some r → Within r (all s)
+    within : (place : Option RowPlace) (r : Row) → option_and_then (row_at s) place ≡ Some r → Within r (all s)
     within None r e = absurd cc
     within (Some place) r e = within_row s whole place r e

@@ -9,7 +9,7 @@ use Rattle.std.specs.declared.random_state.RandomState.{RandomState}
 use Rattle.pending_table.specs.declared.entry.Entry.{Entry}
 use Rattle.pending_table.specs.declared.stores.Stores.{Stores}
 use Rattle.pending_table.specs.declared.stores.Number.{Number}
-use Rattle.pending_table.specs.declared.stores.Place.TheVariants.{Waiting}
+use Rattle.pending_table.specs.declared.stores.RowPlace.TheVariants.{Waiting}
 use Rattle.pending_table.specs.Table.{Row, same_key, is_waiting, is_live, is_live_waiting, numbered}
 use Rattle.pending_table.specs.Merged.{Held, put, merged, rows, Pairs, renumbered}
 use Rattle.pending_table.specs.Stores.{IsKept, IsWhole, waits, all, ends_before, same_number, number_of}

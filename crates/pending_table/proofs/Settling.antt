@@ -15,8 +15,8 @@ use Rattle.pending_table.specs.declared.entry.Answer.{Answer}
 use Rattle.pending_table.specs.declared.entry.Answer.TheVariants as answers
 use Rattle.pending_table.specs.declared.stores.Stores.{Stores}
 use Rattle.pending_table.specs.declared.stores.Number.{Number}
-use Rattle.pending_table.specs.declared.stores.Place.{Place}
-use Rattle.pending_table.specs.declared.stores.Place.TheVariants.{Waiting, Settled}
+use Rattle.pending_table.specs.declared.stores.RowPlace.{RowPlace}
+use Rattle.pending_table.specs.declared.stores.RowPlace.TheVariants.{Waiting, Settled}
 use Rattle.pending_table.specs.Table.{Row, same_key, has_number, is_waiting, ends, update_first}
 use Rattle.pending_table.specs.Merged.{Held, put, merged, rows, Pairs, changed_first}
 use Rattle.pending_table.specs.KeyLaws.{same_key-equal, same_key_equiv}
@@ -200,13 +200,13 @@ others-fail s link number n ps hint =
         absurd (omega (arith, below, serial))
 
 -- a settled row is counted after those before it
-counted_last : (f : Key → Option Place) (n : ℕ) (xs : List Held) (x : Held) → CountedFrom f n xs → f x.1.0 ≡ Some (Settled (n + length xs)) → CountedFrom f n (xs ++ x ∷ [])
+counted_last : (f : Key → Option RowPlace) (n : ℕ) (xs : List Held) (x : Held) → CountedFrom f n xs → f x.1.0 ≡ Some (Settled (n + length xs)) → CountedFrom f n (xs ++ x ∷ [])
 counted_last f n [] x h own = (own ∙ ap (λ m. Some (Settled m)) (omega arith), tt)
 counted_last f n (y ∷ ys) x h own = (h.0, counted_last f (n + 1) ys x h.1 (own ∙ ap (λ m. Some (Settled m)) (omega arith)))
 
 -- another key than the one whose place changes keeps its own
 moved-other :
-    (f g : Key → Option Place) (k q : Key) (old own place : Place)
+    (f g : Key → Option RowPlace) (k q : Key) (old own place : RowPlace)
     → ((r : Key) → g r ≡ cond (same_key k r) (Some place) (f r))
     → f k ≡ Some old
     → f q ≡ Some own
@@ -218,7 +218,7 @@ moved-other f g k q old own place updates fk fq apart = updates q ∙ by (same_k
     by true e = absurd (apart (let p : Some old ≡ Some own = sym fk ∙ ap f (same_key-equal k q e) ∙ fq in cc))
     by false e = fq
 
-module _ (f g : Key → Option Place) (k : Key) (n : ℕ) (place : Place) (updates : (r : Key) → g r ≡ cond (same_key k r) (Some place) (f r)) (at : f k ≡ Some (Waiting n)) where
+module _ (f g : Key → Option RowPlace) (k : Key) (n : ℕ) (place : RowPlace) (updates : (r : Key) → g r ≡ cond (same_key k r) (Some place) (f r)) (at : f k ≡ Some (Waiting n)) where
   counted-moved : (m : ℕ) (xs : List Held) → CountedFrom f m xs → CountedFrom g m xs
   counted-moved m [] h = h
   counted-moved m (x ∷ xs) h = (moved-other f g k x.1.0 (Waiting n) (Settled m) place updates at h.0 (λ e. absurd cc), counted-moved (m + 1) xs h.1)
@@ -249,7 +249,7 @@ numbered-left f g k n updates at ps =
 
 pub kept-settled :
     (s : Stores) (n count : ℕ) (r : Row) (answer : Answer)
-    (keys : HashMap Key Place RandomState) (numbers : HashMap Number ℕ RandomState) (waiting : BTreeMap ℕ Row) (settled : VecDeque Held Global)
+    (keys : HashMap Key RowPlace RandomState) (numbers : HashMap Number ℕ RandomState) (waiting : BTreeMap ℕ Row) (settled : VecDeque Held Global)
     → IsKept s
     → IsWhole s
     → (parts : Split n r s.waiting.entries)
@@ -292,10 +292,10 @@ kept-settled s n count r answer keys numbers waiting settled h whole parts left 
       room = omega (arith, h.room, fewer, capacity, ap length more ∙ length-last s.settled.items (n, (r.0, record r.1 { answer = answer })));
     }
   where
-    f : Key → Option Place
+    f : Key → Option RowPlace
     f = get same_key s.keys
 
-    g : Key → Option Place
+    g : Key → Option RowPlace
     g = get same_key keys
 
     u : Number → Option ℕ

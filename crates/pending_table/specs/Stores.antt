@@ -10,8 +10,8 @@ use Rattle.pending_table.specs.declared.key.Key.{Key}
 use Rattle.pending_table.specs.declared.entry.Entry.{Entry}
 use Rattle.pending_table.specs.declared.stores.Stores.{Stores}
 use Rattle.pending_table.specs.declared.stores.Number.{Number}
-use Rattle.pending_table.specs.declared.stores.Place.{Place}
-use Rattle.pending_table.specs.declared.stores.Place.TheVariants.{Waiting, Settled}
+use Rattle.pending_table.specs.declared.stores.RowPlace.{RowPlace}
+use Rattle.pending_table.specs.declared.stores.RowPlace.TheVariants.{Waiting, Settled}
 use Rattle.pending_table.specs.Table.{Row, same_key, has_number, is_waiting, ends, is_live as entry_is_live}
 use Rattle.pending_table.specs.Merged.{Held, merged, rows, Pairs}
 
@@ -54,7 +54,7 @@ waiting_at s serial = lookup (is_at (nat_cmp serial)) s.waiting.entries
 abbrev pub settled_at : Stores → ℕ → Option Row
 settled_at s count = if nat_lt count s.dropped then None else option_map (λ x. x.1) (slice_get s.settled.items (count - s.dropped))
 
-abbrev pub row_at : Stores → Place → Option Row
+abbrev pub row_at : Stores → RowPlace → Option Row
 row_at s (Waiting serial) = waiting_at s serial
 row_at s (Settled count) = settled_at s count
 
@@ -72,7 +72,7 @@ by_number s link number =
     (option_and_then (waiting_at s) (get same_number s.numbers (record { link = link; number = number })))
 
 -- the index of keys leads to the settled rows, by their counts from n on
-abbrev pub CountedFrom : (Key → Option Place) → ℕ → List Held → Type 0
+abbrev pub CountedFrom : (Key → Option RowPlace) → ℕ → List Held → Type 0
 CountedFrom place n [] = ⊤
 CountedFrom place n (x ∷ xs) = (place x.1.0 ≡ Some (Settled n)) × CountedFrom place (n + 1) xs
 

@@ -22,7 +22,7 @@ use wire_core::{NoMemory, SharedKey};
 /// Where the row of a key stands: among those that wait, by its serial number, or among the settled ones, by how many were settled
 /// before it.
 #[derive(Clone, Copy)]
-pub(crate) enum Place {
+pub(crate) enum RowPlace {
     Waiting { serial: u64 },
     Settled { count: u64 },
 }
@@ -38,7 +38,7 @@ pub(crate) struct Number {
 #[derive(Drop)]
 pub(crate) struct Stores {
     pub(crate) alloc: Global,
-    pub(crate) keys: IndexMap<SharedKey<'static, Key>, Place, RandomState>,
+    pub(crate) keys: IndexMap<SharedKey<'static, Key>, RowPlace, RandomState>,
     pub(crate) numbers: IndexMap<Number, u64, RandomState>,
     pub(crate) waiting: BTreeMap<u64, Row>,
     pub(crate) settled: VecDeque<(u64, Row)>,
@@ -80,12 +80,12 @@ impl Stores {
     }
 
     /// The row at this place.
-    fn at(&self, place: Place) -> Option<&Row>
+    fn at(&self, place: RowPlace) -> Option<&Row>
         ensures { option_copied result ≡ row_at self.now place }
     {
         match place {
-            Place::Waiting { serial } => self.waiting.get(&serial),
-            Place::Settled { count } => self.settled_at(count),
+            RowPlace::Waiting { serial } => self.waiting.get(&serial),
+            RowPlace::Settled { count } => self.settled_at(count),
         }
     }
 
@@ -361,7 +361,7 @@ impl Stores {
         ensures waits { waits self.new ≡ waits self.old ++ drafts self.old }
         ensures rest { KeepsSettled self.old self.new }
     {
-        let place = Place::Waiting { serial: self.next };
+        let place = RowPlace::Waiting { serial: self.next };
         // There is room for both, so neither is refused.
         let _ = self.numbers.insert(number, self.next);
         let _ = self.keys.insert(key, place);
@@ -424,7 +424,7 @@ impl Stores {
         let Some(place) = self.keys.get_mut(row.key()) else {
             return;
         };
-        *place = Place::Settled { count };
+        *place = RowPlace::Settled { count };
         garbage.take_sent(row.set_answer(answer));
         self.settled.push_back_reserved((serial, row));
     }

@@ -14,7 +14,7 @@ use Rattle.wire_core.specs.Numbers.{u16, octets_at}
 use Rattle.wire_core.proofs.NumberLemmas.{length-u16}
 use Rattle.radius_packet.specs.Packet.{AttributeParts, PacketParts, attribute_text, attributes_text, packet_text, IsPacket}
 use Rattle.radius_packet.specs.Seals.{seal}
-use Rattle.radius_packet.specs.Checks.{is_seal, blanked, seal_value, IsSealRight, verdict, seal_of, seal_place, SealAt, with_authenticator}
+use Rattle.radius_packet.specs.Checks.{is_seal, blanked, seal_value, IsSealRight, seal_result, seal_of, seal_place, SealAt, with_authenticator}
 use Rattle.radius_packet.specs.declared.checking.Seal.TheVariants.{Absent, Right, Wrong}
 use Rattle.radius_packet.proofs.Packets.{drop-packet_text}
 use Rattle.radius_packet.proofs.Signing.{authenticator_put, value_put}
@@ -221,7 +221,7 @@ seals_list list before value after e none_before =
     ap (λ xs. filter is_seal xs) e ∙ filter-append is_seal before (seal value ∷ after)
     ∙ ap (λ xs. xs ++ (seal value ∷ filter is_seal after)) none_before
 
-verdict_wrong : (right : List ℕ) (a : AttributeParts) (others : List AttributeParts) → (a.value ≡ right → ⊥) → verdict right (a ∷ others) ≡ Wrong
+verdict_wrong : (right : List ℕ) (a : AttributeParts) (others : List AttributeParts) → (a.value ≡ right → ⊥) → seal_result right (a ∷ others) ≡ Wrong
 verdict_wrong right a [] differs = rw (not_true (pointwise nat_eq a.value right) (λ h. differs ((bytes_eq-Decides a.value right).0 h))) refl
 verdict_wrong right a (b ∷ others) differs = refl
 
@@ -230,7 +230,7 @@ pub wrong_size : (secret octets a : List ℕ) (p : PacketParts) (place : ℕ) (s
 wrong_size secret octets a p place s differs =
     let q : PacketParts = with_authenticator a p in
     let right : List ℕ = seal_value secret q (map blanked p.attributes) in
-    sym (ap (λ (xs : List AttributeParts). verdict right xs) (seals_list p.attributes s.before s.value s.after s.attributes s.first)
+    sym (ap (λ (xs : List AttributeParts). seal_result right xs) (seals_list p.attributes s.before s.value s.after s.attributes s.first)
     ∙ verdict_wrong right (seal s.value) (filter is_seal s.after) (λ h. differs (ap length h ∙ length-seal_value secret q (map blanked p.attributes))))
 
 -- where another one follows, none is right
@@ -238,7 +238,7 @@ pub another : (secret octets a : List ℕ) (p : PacketParts) (place : ℕ) (s : 
 another secret octets a p place s e =
     let m = some_sealed s.after e in
     let right : List ℕ = seal_value secret (with_authenticator a p) (map blanked p.attributes) in
-    sym (ap (λ (xs : List AttributeParts). verdict right xs) (seals_list p.attributes s.before s.value s.after s.attributes s.first
+    sym (ap (λ (xs : List AttributeParts). seal_result right xs) (seals_list p.attributes s.before s.value s.after s.attributes s.first
     ∙ ap (λ (xs : List AttributeParts). seal s.value ∷ xs) m.are))
 
 -- octets at the front of a front, and what follows it
@@ -286,11 +286,11 @@ alone secret octets a p place s e size =
     ap (λ (xs : List AttributeParts). hmac_of secret (packet_text (record q { attributes = xs }))) (blanked_list p.attributes s.before s.value s.after s.attributes s.first none)
     ∙ ap (λ (xs : List ℕ). hmac_of secret xs) (sym (blank_with octets a p place s size)) in
     rw (value_at octets p place s size, ← same)
-    (sym (ap (λ (xs : List AttributeParts). verdict right xs) (seals_list p.attributes s.before s.value s.after s.attributes s.first
+    (sym (ap (λ (xs : List AttributeParts). seal_result right xs) (seals_list p.attributes s.before s.value s.after s.attributes s.first
     ∙ ap (λ (xs : List AttributeParts). seal s.value ∷ xs) none)))
 
 pub absent : (secret : List ℕ) (p : PacketParts) → seal_place p.attributes 0 ≡ None → Absent ≡ seal_of secret p
-absent secret p e = sym (ap (λ (xs : List AttributeParts). verdict (seal_value secret p (map blanked p.attributes)) xs) (unfound p.attributes 0 e))
+absent secret p e = sym (ap (λ (xs : List AttributeParts). seal_result (seal_value secret p (map blanked p.attributes)) xs) (unfound p.attributes 0 e))
 
 -- ---- the test and the relation
 
@@ -338,7 +338,7 @@ chosen : (b : Bool) → cond b Right Wrong ≡ Right → b ≡ true
 chosen true e = refl
 chosen false e = absurd cc
 
-verdict_right : (right : List ℕ) (list : List AttributeParts) → verdict right list ≡ Right → (a : AttributeParts) × (list ≡ a ∷ []) × (a.value ≡ right)
+verdict_right : (right : List ℕ) (list : List AttributeParts) → seal_result right list ≡ Right → (a : AttributeParts) × (list ≡ a ∷ []) × (a.value ≡ right)
 verdict_right right [] e = absurd cc
 verdict_right right (a ∷ []) e = (a, refl, (bytes_eq-Decides a.value right).0 (chosen (pointwise nat_eq a.value right) e))
 verdict_right right (a ∷ b ∷ others) e = absurd cc
@@ -369,6 +369,6 @@ is_right secret p r =
     let none = both_nil (filter is_seal r.before) (filter is_seal r.after) (sym (filter-append is_seal r.before r.after) ∙ r.alone) in
     let same : r.value ≡ right = r.right ∙ ap (λ (xs : List AttributeParts). seal_value secret p xs) (sym (blanked_list p.attributes r.before r.value r.after r.attributes none.0 none.1)) in
     let test : pointwise nat_eq r.value right ≡ true = (bytes_eq-Decides r.value right).1 same in
-    ap (λ (xs : List AttributeParts). verdict right xs) (seals_list p.attributes r.before r.value r.after r.attributes none.0
+    ap (λ (xs : List AttributeParts). seal_result right xs) (seals_list p.attributes r.before r.value r.after r.attributes none.0
     ∙ ap (λ (xs : List AttributeParts). seal r.value ∷ xs) none.1)
     ∙ ap (λ (b : Bool). cond b Right Wrong) test

@@ -43,14 +43,14 @@ pub record IsSealRight (secret : List ℕ) (p : PacketParts) : Type 0 where
   pub right : value ≡ seal_value secret p (before ++ seal (replicate 16 0) ∷ after)
 
 -- what the Message-Authenticators of a packet say, where the one right value is this
-abbrev pub verdict : List ℕ → List AttributeParts → Seal
-verdict right [] = Absent
-verdict right (a ∷ []) = if pointwise nat_eq a.value right then Right else Wrong
-verdict right (a ∷ b ∷ others) = Wrong
+abbrev pub seal_result : List ℕ → List AttributeParts → Seal
+seal_result right [] = Absent
+seal_result right (a ∷ []) = if pointwise nat_eq a.value right then Right else Wrong
+seal_result right (a ∷ b ∷ others) = Wrong
 
 -- what the seal of a packet says
 abbrev pub seal_of : List ℕ → PacketParts → Seal
-seal_of secret p = verdict (seal_value secret p (map blanked p.attributes)) (filter is_seal p.attributes)
+seal_of secret p = seal_result (seal_value secret p (map blanked p.attributes)) (filter is_seal p.attributes)
 
 -- ---- a reply (RFC 2865, section 3; RFC 3579, section 3.2)
 

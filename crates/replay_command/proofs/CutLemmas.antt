@@ -11,7 +11,7 @@ use Rattle.transcript.specs.declared.line.Line.TheVariants as line
 use Rattle.transcript.proofs.CutLemmas as cuts
 use Rattle.transcript.proofs.CutLemmas.{IsNumberless, cut-from}
 use Rattle.replay_command.specs.Cuts.{LinkLinesCanBeCut, inputs_outputs, line_outputs}
-use Rattle.transcript_runs.specs.Runs.{Running, Settings, Stage, event_at, first, follow, places_after}
+use Rattle.transcript_runs.specs.Runs.{Running, Settings, Stage, event_at, first_stage, follow, places_after}
 
 -- ---- inputs that are followed in two pieces
 
@@ -106,4 +106,4 @@ numberless = record { agent = agent-like; client = client-like; event = event-li
 pub link-lines-cut : LinkLinesCanBeCut
 link-lines-cut controls before after moment a b x y m numbered is-a is-b some-x some-y sound =
     let same = cut-from follow line_outputs numberless event-in-two moment m numbered a b x y is-a is-b some-x some-y (beginning controls) before after sound in
-    record { sound = same.sound; stage = same.stage first; outputs = same.outputs first }
+    record { sound = same.sound; stage = same.stage first_stage; outputs = same.outputs first_stage }

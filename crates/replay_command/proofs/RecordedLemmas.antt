@@ -19,7 +19,7 @@ use Rattle.transcript.specs.declared.line.Line.{Line}
 use Rattle.transcript.specs.declared.line.Line.TheVariants as line
 use Rattle.transcript.proofs.FollowLemmas.{after-append, given_by-append}
 use Rattle.replay_command.specs.Recorded.{RecordsAreReplayed, numbered_lines, told_inputs}
-use Rattle.transcript_runs.specs.Runs.{Running, Settings, Stage, event_at, first, follow, places_in, stage_after}
+use Rattle.transcript_runs.specs.Runs.{Running, Settings, Stage, event_at, first_stage, follow, places_in, stage_after}
 use Rattle.replay_command.specs.Run.{end_text, outputs_of, printed_for, printed_for_lines, transcript_text}
 
 -- ---- the settings
@@ -35,10 +35,10 @@ clients-print-nothing : (n : ℕ) (config : Config) (clients : List Client) → 
 clients-print-nothing n config [] = refl
 clients-print-nothing n config (client ∷ clients) = clients-print-nothing (one_more n) (with_client config client) clients
 
-settings-lead : (config : Config) → stage_after first (settings_say config) ≡ Settings (Some config)
+settings-lead : (config : Config) → stage_after first_stage (settings_say config) ≡ Settings (Some config)
 settings-lead config = with-clients 1 (record config { clients = [] }) config.clients
 
-settings-print-nothing : (config : Config) → printed_for_lines first (settings_say config) ≡ []
+settings-print-nothing : (config : Config) → printed_for_lines first_stage (settings_say config) ≡ []
 settings-print-nothing config = clients-print-nothing 1 (record config { clients = [] }) config.clients
 
 -- ---- the inputs
@@ -144,15 +144,15 @@ record-prints law config history =
     let told = told_inputs config history in
     let prints = inputs-print n config told in
     let stage = stage_after (Settings (Some config)) (says_behind n told) in
-    let text : printed_for_lines first (settings_say config ++ says_behind n told) ≡ numbered_lines n (busy_outputs config [] history) =
-    given_by-append follow printed_for first (settings_say config) (says_behind n told)
+    let text : printed_for_lines first_stage (settings_say config ++ says_behind n told) ≡ numbered_lines n (busy_outputs config [] history) =
+    given_by-append follow printed_for first_stage (settings_say config) (says_behind n told)
     ∙ ap₂ (λ t s. t ++ printed_for_lines s (says_behind n told)) (settings-print-nothing config) (settings-lead config)
     ∙ prints.text
     ∙ ap (λ es. numbered_lines n (each_outputs config [] es)) (told-back (without_idle config [] history))
     ∙ ap (numbered_lines n) (law config history)
     in
-    let leads : stage_after first (settings_say config ++ says_behind n told) ≡ stage =
-    after-append follow first (settings_say config) (says_behind n told)
+    let leads : stage_after first_stage (settings_say config ++ says_behind n told) ≡ stage =
+    after-append follow first_stage (settings_say config) (says_behind n told)
     ∙ ap (λ s. stage_after s (says_behind n told)) (settings-lead config)
     in
     let at : places_in stage ≡ places config [] (without_idle config [] history) =

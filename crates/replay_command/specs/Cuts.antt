@@ -9,7 +9,7 @@ use Rattle.printed_lines.specs.EventText.{link_line}
 use Rattle.transcript.specs.Grammar.{IsHex, IsNumber}
 use Rattle.transcript.specs.Reading.{Said, beginning, read_from}
 use Rattle.transcript.specs.Told.{given_by}
-use Rattle.transcript_runs.specs.Runs.{Running, Settings, Stage, event_at, first, follow, stage_after}
+use Rattle.transcript_runs.specs.Runs.{Running, Settings, Stage, event_at, first_stage, follow, stage_after}
 use Rattle.transcript.specs.declared.line.Line.{Line}
 use Rattle.transcript.specs.declared.line.Line.TheVariants as line
 
@@ -40,8 +40,8 @@ outputs_of_lines stage lines = given_by follow line_outputs stage lines
 -- no line is bad here either, and all lines make the same of the agent and have the same outputs
 pub record GivesSame (said other : Said) : Type 0 where
   pub sound : other.stop ≡ None
-  pub stage : stage_after first other.lines ≡ stage_after first said.lines
-  pub outputs : outputs_of_lines first other.lines ≡ outputs_of_lines first said.lines
+  pub stage : stage_after first_stage other.lines ≡ stage_after first_stage said.lines
+  pub outputs : outputs_of_lines first_stage other.lines ≡ outputs_of_lines first_stage said.lines
 
 -- a transcript with a line of the octets of both words, some in each, and the same one with two lines of the same moment
 -- in its place, whether control lines may stand or not

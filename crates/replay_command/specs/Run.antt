@@ -8,7 +8,7 @@ use Rattle.agent_core.specs.Places.{Event, Place}
 use Rattle.agent_core.specs.History.{place}
 use Rattle.printed_lines.specs.Text.{end_line, is_drop, is_reply, is_send, output_line}
 use Rattle.transcript.specs.declared.line.Line.{Line}
-use Rattle.transcript_runs.specs.Runs.{Stage, Telling, first, inputs_told, line_told, lines_told, places_in, stage_after}
+use Rattle.transcript_runs.specs.Runs.{Stage, Telling, first_stage, inputs_told, line_told, lines_told, places_in, stage_after}
 
 -- what goes out for an event behind these places, on the line with this number
 abbrev pub event_text : ℕ → Config → List Place → Event → List ℕ
@@ -40,4 +40,4 @@ replay_telling = record { text = event_text; end = end_text }
 
 -- what a transcript of these lines prints
 abbrev pub transcript_text : List Line → List ℕ
-transcript_text lines = printed_for_lines first lines ++ end_text (stage_after first lines)
+transcript_text lines = printed_for_lines first_stage lines ++ end_text (stage_after first_stage lines)

@@ -28,7 +28,7 @@ use Rattle.reverse_core.specs.declared.requests.KeptAnswer.{KeptAnswer}
 use Rattle.reverse_core.specs.Keys.{same_key, key_of}
 use Rattle.reverse_core.specs.Requests.{Deed, Nothing, Takes, Repeats, Closes, Ticks, answers_by, given_up, is_kept, is_spent}
 use Rattle.reverse_core.specs.Places.{ReverseEvent, ReversePlace, now, with_taken, takings, count, if_open, open_among, sent_after, sent_so_far, open_requests, answers, kept_answers}
-use Rattle.reverse_core.specs.History.{Outcome, Known, Unknown, IsOpen, IsKept, says, known, known_kept, has_identifier, is_full, taken, refused_by, translated, unknown, on_known, on_asked, on_message, is_reply, answered, matched, on_packet, overdue, with_hop, placed, at_input, place, places, past}
+use Rattle.reverse_core.specs.History.{Outcome, Known, Unknown, IsOpen, IsKept, says, known, known_kept, has_identifier, is_full, taken, refused_by, translated, on_unknown, on_known, on_asked, on_message, is_authentic_reply, answered, matched, on_packet, overdue, with_hop, placed, at_input, place, places, past}
 use Rattle.reverse_core.specs.Laws.{said_by, said_at, said_so_far, IsDirect, IsRefusal, IsSaid}
 use Rattle.reverse_core.proofs.Members.{first-there, later-there, each-there, each-end, each-append, each-found}
 use Rattle.reverse_core.proofs.Opening.{IsFresh, count-after}
@@ -209,7 +209,7 @@ translated-said own ps at octets random q (Err fault) c asked =
     direct-said own ps at (inputs.Request octets random) (Answer (refusal own q (refused_by fault))) (inr (q, asked, fault-refuses own q fault))
 
 unknown-said : (own : Reverse) (ps : List ReversePlace) (at : ℕ) (os : List OpenRequest) (ks : List KeptAnswer) (octets random : List ℕ) (q : AskedParts) → IsCounted 0 (takings ps)
-    → request_in octets ≡ Some q → SpokenBy own ps at (inputs.Request octets random) (unknown own os ks (count ps) octets random q)
+    → request_in octets ≡ Some q → SpokenBy own ps at (inputs.Request octets random) (on_unknown own os ks (count ps) octets random q)
 unknown-said own ps at os ks octets random q c asked =
     let r = request_image (direction_of q.header) (count ps % 256) random own.secret q.avps in
     elim (is_full os ks (count ps)) as (λ b. SpokenBy own ps at (inputs.Request octets random) (cond b (says (Answer (refusal own q 3004))) (translated own (count ps) octets q r))) [
@@ -259,7 +259,7 @@ answer-long own q p = omega (arith, length-message_text (answer_header q.header 
 answered-said : (own : Reverse) (ps : List ReversePlace) (at : ℕ) (octets : List ℕ) (o : OpenRequest) (p : PacketParts) (asked : Option AskedParts) → IsCounted 0 (takings ps) → WasTaken ps o
     → SpokenBy own ps at (inputs.Reply octets) (answered own o.taken p asked)
 answered-said own ps at octets o p None c was = direct-said own ps at (inputs.Reply octets) (Dropped StrangeReply) refl
-answered-said own ps at octets o p (Some q) c was = by (is_reply own o.taken q p)
+answered-said own ps at octets o p (Some q) c was = by (is_authentic_reply own o.taken q p)
   where
     a : List ℕ
     a = answer_of own q p

@@ -21,7 +21,7 @@ use Rattle.reverse_core.specs.declared.requests.OpenRequest.{OpenRequest}
 use Rattle.reverse_core.specs.declared.requests.KeptAnswer.{KeptAnswer}
 use Rattle.reverse_core.specs.Keys.{same_key, key_of}
 use Rattle.reverse_core.specs.Requests.{Deed, Nothing, Takes, Repeats, Closes, Ticks}
-use Rattle.reverse_core.specs.History.{Known, Unknown, IsOpen, IsKept, says, known, known_kept, has_identifier, is_full, taken, translated, unknown, on_known, on_asked, on_message, on_request, is_reply, answered, matched, on_packet, on_reply, on_input}
+use Rattle.reverse_core.specs.History.{Known, Unknown, IsOpen, IsKept, says, known, known_kept, has_identifier, is_full, taken, translated, on_unknown, on_known, on_asked, on_message, on_request, is_authentic_reply, answered, matched, on_packet, on_reply, on_input}
 use Rattle.reverse_core.specs.State.{count_open, count_kept, MayTake}
 use Rattle.reverse_core.proofs.KnownLemmas.{find-any}
 use Rattle.reverse_core.proofs.Opening.{IsFresh}
@@ -47,7 +47,7 @@ takes-image own n octets q (Ok sent) t e =
 takes-image own n octets q (Err fault) t e = absurd (cc)
 
 takes-unknown : (own : Reverse) (os : List OpenRequest) (ks : List KeptAnswer) (n : ℕ) (octets random : List ℕ) (q : AskedParts) (t : Taken)
-    → (unknown own os ks n octets random q).deed ≡ Takes t → request_in octets ≡ Some q → known (key_of q) os ks ≡ Unknown → TakesUp own os ks n octets random t
+    → (on_unknown own os ks n octets random q).deed ≡ Takes t → request_in octets ≡ Some q → known (key_of q) os ks ≡ Unknown → TakesUp own os ks n octets random t
 takes-unknown own os ks n octets random q t e asked new = by (is_full os ks n) refl e
   where
     image : Result (List ℕ) ReverseFault
@@ -168,7 +168,7 @@ fresh-none Ticks n is = tt
 none-answered : (own : Reverse) (t : Taken) (p : PacketParts) (o : Option AskedParts) → IsNoTake (answered own t p o).deed
 none-answered own t p None = tt
 none-answered own t p (Some q) =
-    elim (is_reply own t q p) as (λ b. IsNoTake (cond b (record { deed = Closes t (answer_of own q p); outputs = Answer (answer_of own q p) ∷ [] }) (says (Dropped StrangeReply))).deed) [
+    elim (is_authentic_reply own t q p) as (λ b. IsNoTake (cond b (record { deed = Closes t (answer_of own q p); outputs = Answer (answer_of own q p) ∷ [] }) (says (Dropped StrangeReply))).deed) [
       | true ↦ tt
       | false ↦ tt
     ]

@@ -78,13 +78,13 @@ translated own n octets q (Ok sent) = record { deed = Takes (taken n octets q se
 translated own n octets q (Err fault) = says (Answer (refusal own q (refused_by fault)))
 
 -- DIAMETER_TOO_BUSY (RFC 6733, section 7.1.3)
-abbrev pub unknown : Reverse → List OpenRequest → List KeptAnswer → ℕ → List ℕ → List ℕ → AskedParts → Outcome
-unknown own os ks n octets random q =
+abbrev pub on_unknown : Reverse → List OpenRequest → List KeptAnswer → ℕ → List ℕ → List ℕ → AskedParts → Outcome
+on_unknown own os ks n octets random q =
     if is_full os ks n then says (Answer (refusal own q 3004))
     else translated own n octets q (request_image (direction_of q.header) (n % 256) random own.secret q.avps)
 
 abbrev pub on_known : Reverse → List OpenRequest → List KeptAnswer → ℕ → List ℕ → List ℕ → AskedParts → Known → Outcome
-on_known own os ks n octets random q Unknown = unknown own os ks n octets random q
+on_known own os ks n octets random q Unknown = on_unknown own os ks n octets random q
 on_known own os ks n octets random q IsOpen = says (Dropped Open)
 on_known own os ks n octets random q (IsKept k) =
     record { deed = Repeats k q.header.hop; outputs = Answer (with_hop q.header.hop k.answer) ∷ [] }
@@ -110,13 +110,13 @@ abbrev pub authenticator_of : List ℕ → List ℕ
 authenticator_of packet = octets_at packet 4 16
 
 -- an authentic packet of a code that answers the request
-abbrev pub is_reply : Reverse → Taken → AskedParts → PacketParts → Bool
-is_reply own t q p = is_reply_right own.secret (authenticator_of t.sent) p && is_reply_code q.header p.code
+abbrev pub is_authentic_reply : Reverse → Taken → AskedParts → PacketParts → Bool
+is_authentic_reply own t q p = is_reply_right own.secret (authenticator_of t.sent) p && is_reply_code q.header p.code
 
 abbrev pub answered : Reverse → Taken → PacketParts → Option AskedParts → Outcome
 answered own t p None = says (Dropped StrangeReply)
 answered own t p (Some q) =
-    if is_reply own t q p then record { deed = Closes t (answer_of own q p); outputs = Answer (answer_of own q p) ∷ [] }
+    if is_authentic_reply own t q p then record { deed = Closes t (answer_of own q p); outputs = Answer (answer_of own q p) ∷ [] }
     else says (Dropped StrangeReply)
 
 -- to the open request with its identifier

@@ -200,7 +200,7 @@ impl Ledger {
         requires served { IsTrue (asking.is_served message.now.header) }
         requires asked { IsSome (asking.asked_in (message_view message.now)) }
         requires key { asking.ForAsked (message_view message.now) (λ q. key ≡ keys.key_of q) }
-        ensures { asking.ForAsked (message_view message.now) (λ q. IfOk result (Considers (history.unknown self.now.own self.now.open_ones.list
+        ensures { asking.ForAsked (message_view message.now) (λ q. IfOk result (Considers (history.on_unknown self.now.own self.now.open_ones.list
             (kept_in (state_of self.now) moment) self.now.open_ones.next octets.now random q))) }
     {
         if self.is_full(moment) {

@@ -16,9 +16,9 @@ use Rattle.reverse_script.specs.declared.counts.Counts.{Counts}
 use Rattle.reverse_script.specs.declared.line.ScriptFault.{ScriptFault}
 use Rattle.reverse_script.specs.declared.line.ScriptFault.TheVariants as faults
 use Rattle.reverse_script.specs.declared.work.ReverseWork.{ReverseWork}
-use Rattle.reverse_script.specs.Script.{Said, kind_of, read_line, said_by}
+use Rattle.reverse_script.specs.Script.{Said, kind_of, read_line, read_words}
 use Rattle.reverse_script.specs.Printed.{At, Nothing, Printed, Running, Stage, end_text, is_begun, on, printed_from, printed_on, reverse_task, stage_on, start, text_on}
-use Rattle.reverse_script.specs.Running.{IsStage, Refuses, Took, status_of}
+use Rattle.reverse_script.specs.Running.{IsStage, Refuses, Took, bad_line_status}
 
 -- ---- lines behind lines
 
@@ -168,7 +168,7 @@ takes-part status work lines line said number before now took read is failure wr
 
 -- a line that can't be read
 pub refused : (fault : ScriptFault) (work : ReverseWork) (lines : List (List ℕ)) (line : List ℕ) (number : ℕ) (now : Option (List ℕ)) → Took work lines
-    → number ≡ one_more work.lines → Refuses fault (read_line (is_some work.core) line) → WorksNot reverse_task (status_of number fault) lines line now now
+    → number ≡ one_more work.lines → Refuses fault (read_line (is_some work.core) line) → WorksNot reverse_task (bad_line_status number fault) lines line now now
 refused (faults.Bad reason) work lines line number now took is said =
     let same = number-is work lines number took is in (
       bad-line lines line reason took.sound (read-at work lines line (Err reason) took said) ∙ ap (λ n. Some (record { line = n; reason = reason })) (sym same),
@@ -182,7 +182,7 @@ pub long-line : (work : ReverseWork) (lines : List (List ℕ)) (octets : List �
 long-line work lines octets number took is long =
     let begun : Bool = is_begun (so_far lines).at.stage in
     let over : nat_lt 140000 (length octets) ≡ true = search (rules, long) in
-    let said : said_at (so_far lines).at octets ≡ Err 1 = ap (λ (b : Bool). if b then Err 1 else said_by begun (kind_of (words_of octets)) (words_of octets)) over in
+    let said : said_at (so_far lines).at octets ≡ Err 1 = ap (λ (b : Bool). if b then Err 1 else read_words begun (kind_of (words_of octets)) (words_of octets)) over in
     bad-line lines octets 1 took.sound said ∙ ap (λ n. Some (record { line = n; reason = 1 })) (sym (number-is work lines number took is))
 
 -- the end line counts what went out

@@ -50,9 +50,9 @@ IsInLimits (lines.Own own) = IsTrue (is_own_in_limits own)
 IsInLimits (lines.Event moment input) = ⊤
 
 -- the status of a line of this number that can't be read
-abbrev pub status_of : ℕ → ScriptFault → Status
-status_of number (Bad reason) = BadTranscript number reason
-status_of number NoMemory = OutOfMemory
+abbrev pub bad_line_status : ℕ → ScriptFault → Status
+bad_line_status number (Bad reason) = BadTranscript number reason
+bad_line_status number NoMemory = OutOfMemory
 
 -- ---- running
 

@@ -134,11 +134,11 @@ told_by Own words = told_own (own_of words)
 told_by (Event name) words = told_event (event_of name words)
 
 -- 2: the count of words and the fixed words are those of no line that may stand there
-abbrev pub said_by : Bool → Option Kind → List (List ℕ) → Result Said ℕ
-said_by begun None words = Err 2
-said_by begun (Some kind) words = if may_stand begun kind then told_by kind words else Err 2
+abbrev pub read_words : Bool → Option Kind → List (List ℕ) → Result Said ℕ
+read_words begun None words = Err 2
+read_words begun (Some kind) words = if may_stand begun kind then told_by kind words else Err 2
 
 -- What a line says, behind the settings or before them, or the reason why it is bad. 1: it has more than 140,000 octets.
 abbrev pub read_line : Bool → List ℕ → Result Said ℕ
 read_line begun line =
-    if nat_lt 140000 (length line) then Err 1 else said_by begun (kind_of (words_of line)) (words_of line)
+    if nat_lt 140000 (length line) then Err 1 else read_words begun (kind_of (words_of line)) (words_of line)

@@ -10,7 +10,7 @@ ghost use Rattle.reverse_core.specs.Places.{ReversePlace};
 ghost use Rattle.reverse_core.specs.History.{place};
 ghost use Rattle.reverse_script.specs.Script.{Tells, is_own_in_limits};
 ghost use Rattle.reverse_script.specs.Printed.{Stage, output_line, reverse_task, stage_on, text_on};
-ghost use Rattle.reverse_script.specs.Running.{IsInLimits, IsStage, RunsAt, RunsOn, Took, event_at, said_of, status_of};
+ghost use Rattle.reverse_script.specs.Running.{IsInLimits, IsStage, RunsAt, RunsOn, Took, event_at, said_of, bad_line_status};
 
 use crate::counts::Counts;
 use crate::line::{ScriptFault, ScriptLine, read_line};
@@ -140,7 +140,7 @@ impl ReverseWork {
 
 /// How the command ends at the line of this number, which can't be read.
 fn fault_status(number: u64, fault: ScriptFault) -> Status
-    ensures { result ≡ status_of number fault }
+    ensures { result ≡ bad_line_status number fault }
 {
     match fault {
         ScriptFault::Bad { reason } => Status::BadTranscript {

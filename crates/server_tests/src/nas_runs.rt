@@ -5,7 +5,7 @@ ghost use Rattle.wire_devices.specs.Sockets.{Socket};
 
 use crate::calls::{LOOPBACK, twin};
 use agent_status::Status;
-use peer_runs::{Place, nas};
+use peer_runs::{Target, nas};
 use std::alloc::Global;
 use std::collections::VecDeque;
 use std::sync::Wait;
@@ -47,7 +47,7 @@ fn runs<R: Wait, D: Datagrams>(
 ) -> Result<bool, NoMemory>
     requires { (D.told socket.old).row ≡ 0 }
 {
-    let place = Place {
+    let place = Target {
         address: LOOPBACK,
         port: PORT,
     };

@@ -33,7 +33,7 @@ use Rattle.server_workers.specs.Entries.{AreBlank, AsksLeave, EachEntry, EndsWit
 use Rattle.server_workers.specs.Going.{SeenLast, Went}
 use Rattle.server_workers.specs.LinkReading.{LinkMayTake}
 use Rattle.server_workers.specs.LinkWriting.{Wrote}
-use Rattle.server_workers.specs.Running.{Between, ClosedFor, ComesNext, Dialled, Ends, EndsLink, EndsRun, end_after, HasReaders, HasSpare, Keeps, KeepsAll, KeepsPair, counted, IsFinishedTick, LastDrain, LateDrainsAreEmpty, LeftAtEnd, LinkOpened, NoLeave, Opened, Over, Rests, RoseBy, RunOver, Started, Tally, TakesLeaveAlone, Ticked}
+use Rattle.server_workers.specs.Running.{Between, ClosedFor, ComesNext, Dialled, NoNextLink, EndsLink, EndsRun, end_after, HasReaders, HasSpare, Keeps, KeepsAll, KeepsPair, counted, IsFinishedTick, LastDrain, LateDrainsAreEmpty, LeftAtEnd, LinkOpened, NoLeave, Opened, Over, Rests, RoseBy, RunOver, Started, Tally, TakesLeaveAlone, Ticked}
 use Rattle.agent_events.specs.Kinds.{is_leave}
 use Rattle.server_workers.specs.Serving.{AllBut, AreUnopened, IsTick, LinkRead, MayWrite, Span, Spanned, Spans, WasRead}
 use Rattle.server_workers.specs.Serving.Spans.{no_more, one_more}
@@ -465,7 +465,7 @@ module _ {I O : Type 0} (hears : I → Inlet) (speaks : O → Outlet) where
         → past'.pairs.items ≡ past.pairs.items ++ spare → vec_capacity past'.pairs ≡ vec_capacity past.pairs → past'.lost ≡ past.lost → past'.again ≡ past.again
         → AreUnopened hears speaks spare → HasSpare end spare → length past'.pairs.items ≤ 256
         → ((t : WriterTurns k k' mine) → EndsRun end now.row refused (grow s.between.segs t.rest) k'.seen)
-        → Ends hears speaks told end before now refused k k' twins past'
+        → NoNextLink hears speaks told end before now refused k k' twins past'
     ends-by end before now refused k k' twins past past' spare mine s went still dialled grows failed pairs room lost again unopened only few ends =
         let t = writer-turns k k' mine s.numbers went in
         record {
@@ -491,7 +491,7 @@ module _ {I O : Type 0} (hears : I → Inlet) (speaks : O → Outlet) where
         → AsksLeave left tries → dials.row ≡ 0 → Rests hears speaks told k twins past → Went (None ∷ []) k l → Went tries l m → length past.pairs.items < 256
         → past'.pairs.items ≡ past.pairs.items ++ pair ∷ [] → vec_capacity past'.pairs ≡ vec_capacity past.pairs → past'.lost ≡ past.lost → past'.again ≡ past.again
         → IsFreshInlet (hears pair.link_in) → IsFreshOutlet (speaks pair.link_out)
-        → Ends hears speaks told run.NoMemory dials dials refused k m twins past'
+        → NoNextLink hears speaks told run.NoMemory dials dials refused k m twins past'
     ends-unopened dials refused k l m twins past past' pair tries left asked low s blank went few pairs room lost again fresh_in fresh_out =
         ends-by run.NoMemory dials dials refused k m twins past past' (pair ∷ []) (None ∷ tries) s
         (went-on (None ∷ []) tries k l m blank went)
@@ -502,7 +502,7 @@ module _ {I O : Type 0} (hears : I → Inlet) (speaks : O → Outlet) where
     -- all links that may be made were closed
     pub ends-worn : (dials : Dials) (refused : Type 0) (k l : Known T Input Heard) (twins : Twins D) (past : Past I O) (tries : List RunTurn) (left : Heard)
         → AsksLeave left tries → dials.row ≡ 0 → (s : Rests hears speaks told k twins past) → Went tries k l → 256 ≤ length past.pairs.items
-        → Ends hears speaks told run.Worn dials dials refused k l twins past
+        → NoNextLink hears speaks told run.Worn dials dials refused k l twins past
     ends-worn dials refused k l twins past tries left asked low s went many =
         ends-by run.Worn dials dials refused k l twins past past [] tries s went (λ late. still-leave left tries asked) (let none = leave-ticks left tries asked in omega (arith, none))
         (omega arith) (λ full. absurd (omega (arith, low, full))) (sym (append-nil past.pairs.items)) refl refl refl tt refl s.few
@@ -518,7 +518,7 @@ module _ {I O : Type 0} (hears : I → Inlet) (speaks : O → Outlet) where
     pub ends-undialled : (before now : Dials) (refused : Type 0) (k l m : Known T Input Heard) (twins : Twins D) (past : Past I O) (mine tries : List RunTurn) (left : Heard)
         → AsksLeave left tries → before.row ≡ 0 → Rests hears speaks told k twins past → Went mine k l → Dialled hears speaks dialling.Failed mine before now
         → Went tries l m
-        → Ends hears speaks told run.LinkFault before now refused k m twins past
+        → NoNextLink hears speaks told run.LinkFault before now refused k m twins past
     ends-undialled before now refused k l m twins past mine tries left asked low s dials d went =
         ends-by run.LinkFault before now refused k m twins past past [] (mine ++ tries) s (went-on mine tries k l m dials went)
         (λ late. still-on mine tries (still-ticks mine d.asks) (still-leave left tries asked))
@@ -532,7 +532,7 @@ module _ {I O : Type 0} (hears : I → Inlet) (speaks : O → Outlet) where
     -- the run was at its end while no link was open
     pub ends-finished : (end : RunEnd) (before now : Dials) (refused : Type 0) (k l m : Known T Input Heard) (twins : Twins D) (past : Past I O) (mine : List RunTurn)
         → before.row ≡ 0 → Rests hears speaks told k twins past → Went mine k l → Dialled hears speaks dialling.Finished mine before now → TakesLeaveAlone end l m
-        → Ends hears speaks told end before now refused k m twins past
+        → NoNextLink hears speaks told end before now refused k m twins past
     ends-finished run.Left before now refused k l m twins past mine low s dials d (more, went, (left, last, is)) =
         by (subst (λ ts. Went ts l m) is went)
       where
@@ -580,14 +580,14 @@ module _ {I O : Type 0} (hears : I → Inlet) (speaks : O → Outlet) where
           quiet = (each-append Stay (of 0 k.seen) front s.between.quiet (each-front Stay front (Some entry ∷ []) (subst NoLeave is (quiet-ticks mine d.asks))), tt, tt);
         })
 
-        by : Went (Some (inputs.Leave, left) ∷ Some (inputs.Drain, last) ∷ []) l m → Ends hears speaks told run.Left before now refused k m twins past
+        by : Went (Some (inputs.Leave, left) ∷ Some (inputs.Drain, last) ∷ []) l m → NoNextLink hears speaks told run.Left before now refused k m twins past
         by gone =
             let whole = went-on mine (Some (inputs.Leave, left) ∷ Some (inputs.Drain, last) ∷ []) k l m dials gone in
             ends-by run.Left before now refused k m twins past past [] all s whole (λ late. still late (writer-turns k m all s.numbers whole)) ticked
             d.grows (λ full. d.failed (omega (arith, low, full))) (sym (append-nil past.pairs.items)) refl refl refl tt refl s.few (λ t. at-end t d.ends.2)
     ends-finished run.NoMemory before now refused k l m twins past mine low s dials d (more, went, how) = by more how went
       where
-        end-by : (more : List RunTurn) → IsStill more → EachEntry (λ ask heard. is_tick ask ≡ false) more → Went more l m → Ends hears speaks told run.NoMemory before now refused k m twins past
+        end-by : (more : List RunTurn) → IsStill more → EachEntry (λ ask heard. is_tick ask ≡ false) more → Went more l m → NoNextLink hears speaks told run.NoMemory before now refused k m twins past
         end-by more still none gone =
             ends-by run.NoMemory before now refused k m twins past past [] (mine ++ more) s (went-on mine more k l m dials gone)
             (λ late. still-on mine more (still-ticks mine d.asks) still)
@@ -598,7 +598,7 @@ module _ {I O : Type 0} (hears : I → Inlet) (speaks : O → Outlet) where
             d.grows (λ full. d.failed (omega (arith, low, full))) (sym (append-nil past.pairs.items)) refl refl refl tt tt s.few (λ t. tt)
 
         by : (more : List RunTurn) → (more ≡ None ∷ []) ⊎ ((left : Heard) × (more ≡ Some (inputs.Leave, left) ∷ None ∷ [])) → Went more l m
-            → Ends hears speaks told run.NoMemory before now refused k m twins past
+            → NoNextLink hears speaks told run.NoMemory before now refused k m twins past
         by more (inl is) gone = end-by (None ∷ []) still-blank tt (subst (λ ts. Went ts l m) is gone)
         by more (inr (left, is)) gone =
             end-by (Some (inputs.Leave, left) ∷ None ∷ []) (record { asks = (tt, tt); hands = refl; no_down = refl }) (refl, tt) (subst (λ ts. Went ts l m) is gone)
@@ -637,7 +637,7 @@ module _ {I O : Type 0} (hears : I → Inlet) (speaks : O → Outlet) where
         → IsFreshInlet (hears pair.link_in) → IsFreshOutlet (speaks pair.link_out)
         → ((segs : List (List ServerTurn)) (seen : List ServerTurn) → HasLeave (of 0 seen) → EndsRun end dials.row refused segs seen) → HasSpare {A = Pair I O} end []
         → ((segs : List (List ServerTurn)) → AllBut WasRead segs → HasReaders end segs)
-        → Ends hears speaks told end dials dials refused k m twins' past'
+        → NoNextLink hears speaks told end dials dials refused k m twins' past'
     ends-unstarted end dials refused k l m twins twins' past past' pair tries left asked low s same went alike pairs room lost again fresh_in fresh_out ends only read =
         let t = writer-turns l m tries same.numbers went in
         let b = s.opened.between in
@@ -733,7 +733,7 @@ module _ {I O : Type 0} (hears : I → Inlet) (speaks : O → Outlet) where
 
     -- no link is made after this one
     pub over-ends : (end : WriterEnd) (last : RunEnd) (dials : Dials) (refused : Type 0) (k k' : Known T Input Heard) (twins : Twins D) (past : Past I O)
-        → dials.row ≡ 0 → end_after end ≡ Some last → Over hears speaks told end k k' twins past → Ends hears speaks told last dials dials refused k k' twins past
+        → dials.row ≡ 0 → end_after end ≡ Some last → Over hears speaks told end k k' twins past → NoNextLink hears speaks told last dials dials refused k k' twins past
     over-ends end last dials refused k k' twins past low is o = record {
       first = o.first;
       numbers = o.numbers;

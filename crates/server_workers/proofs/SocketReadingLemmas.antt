@@ -18,7 +18,7 @@ use Rattle.server_workers.specs.declared.socket_reader.ReadCounts.{ReadCounts}
 use Rattle.server_workers.specs.Entries.{AsksLeave, EndsWith, Less, RunTurn, entry_replies, is_entry_of, is_tick, replies, reply_of, ticks, turn_of}
 use Rattle.server_workers.specs.Entries.Less.{empty, keeps, loses}
 use Rattle.server_workers.specs.Going.{Went}
-use Rattle.server_workers.specs.SocketReading.{AddsAtLeast, Hands, IsLast, Reads, ReadsOnce, ReadsSocket, SocketMayAsk, SocketMayTake, StopsReading, datagram_in, datagrams, entry_datagram, input_of, is_last}
+use Rattle.server_workers.specs.SocketReading.{AddsAtLeast, Hands, IsLast, ReadsDatagrams, ReadsOnce, ReadsSocket, SocketMayAsk, SocketMayTake, StopsReading, datagram_in, datagrams, entry_datagram, input_of, is_last}
 use Rattle.server_workers.proofs.EntryLemmas.{less-append}
 use Rattle.server_workers.proofs.GoingLemmas.{went-none, went-on}
 use Rattle.server_workers.proofs.LeaveLemmas.{has-leave, has-leave-behind, leave-datagrams, leave-replies, leave-taken, leave-ticks}
@@ -84,7 +84,7 @@ rose-then s t u one grows failed more =
 
 -- some looks, and then more
 reads-on : (via : Via) (mine more : List RunTurn) (s t u : Socket) (n m : ℕ)
-    → t.row < 16 → Reads via mine s t n → Reads via more t u m → Reads via (mine ++ more) s u (n + m)
+    → t.row < 16 → ReadsDatagrams via mine s t n → ReadsDatagrams via more t u m → ReadsDatagrams via (mine ++ more) s u (n + m)
 reads-on via mine more s t u n m low one two = record {
   got = one.got ++ two.got;
   received = Adds-append one.received two.received;
@@ -117,7 +117,7 @@ reads-on via mine more s t u n m low one two = record {
 reads-by : (via : Via) (mine : List RunTurn) (got : List Datagram) (out : ℕ) (s t u : Socket)
     → Adds s.received t.received got → t.handed ≡ s.handed → AddsAtLeast s.idle t.idle (ticks mine)
     → Less got (datagrams mine) out → CountsFaults s t → Hands t u (replies mine) → All (SocketMayTake via u.row) mine
-    → Reads via mine s u out
+    → ReadsDatagrams via mine s u out
 reads-by via mine got out s t u received same idle entered faults hands asks = record {
   got = got;
   received = subst (λ r. Adds s.received r got) (sym hands.received) received;
@@ -264,7 +264,7 @@ pub record ReadsOn {T : Type 0} (via : Via) (k l : Known T Input Heard) (s t : S
   pub mine : List RunTurn
   pub out : ℕ
   pub went : Went mine k l
-  pub reads : Reads via mine s t out
+  pub reads : ReadsDatagrams via mine s t out
   pub counted : counts.lost ≡ min out (2 ^ 64 - 1)
   pub row : counts.row ≡ t.row
   pub low : t.row < 16

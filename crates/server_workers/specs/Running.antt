@@ -312,7 +312,7 @@ module _ {I O : Type 0} (hears : I → Inlet) (speaks : O → Outlet) where
       pub tally : Tally told past twins.auth twins.acct k.seen out retries
 
     -- no further link is made; the dialer's counts are those before and now
-    pub record Ends (end : RunEnd) (before now : Dials) (refused : Type 0) (k k' : Known T Input Heard) (twins : Twins D) (past : Past I O) : Type 0 where
+    pub record NoNextLink (end : RunEnd) (before now : Dials) (refused : Type 0) (k k' : Known T Input Heard) (twins : Twins D) (past : Past I O) : Type 0 where
       pub first : k'.first ≡ k.first
       pub numbers : k'.numbers ≡ 0 ∷ 3 ∷ []
       pub ticked : Ticked (of 0 k.seen) (of 0 k'.seen) before.faults now.faults
@@ -334,7 +334,7 @@ module _ {I O : Type 0} (hears : I → Inlet) (speaks : O → Outlet) where
     -- what comes after a link, where the crew's count of refused starts was `starts` and is `starts'`
     abbrev pub ComesNext : Next T D I O → TableId → Dials → Dials → ℕ → ℕ → Known T Input Heard → Known T Input Heard → Past I O → Type 0
     ComesNext (next.Go live) turnstile before now starts starts' k k' past = Goes turnstile before now (starts' ≡ starts) k k' live past
-    ComesNext (next.Stop end twins) turnstile before now starts starts' k k' past = Ends end before now (Rose starts starts') k k' twins past
+    ComesNext (next.Stop end twins) turnstile before now starts starts' k k' past = NoNextLink end before now (Rose starts starts') k k' twins past
 
 -- ---- the reader of a link, back
 

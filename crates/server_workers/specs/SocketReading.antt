@@ -77,7 +77,7 @@ pub record Hands (before now : Socket) (sent : List Datagram) : Type 0 where
 -- A reader of the socket of this port took these turns: each datagram that was received was entered, but for so many that
 -- are lost, and what came of an entry was handed to the socket. The count of faults never fell, and it rose where more
 -- receives in a row failed than before.
-pub record Reads (via : Via) (mine : List RunTurn) (s t : Socket) (out : ℕ) : Type 0 where
+pub record ReadsDatagrams (via : Via) (mine : List RunTurn) (s t : Socket) (out : ℕ) : Type 0 where
   pub got : List Datagram
   pub received : Adds s.received t.received got
   pub entered : Less got (datagrams mine) out
@@ -94,7 +94,7 @@ StopsReading row mine = ((row ≡ 16) × HasLeave mine) ⊎ ((row < 16) × EndsW
 
 -- the turns of a whole run
 pub record ServedSocket (via : Via) (mine : List RunTurn) (s t : Socket) (out : ℕ) : Type 0 where
-  pub reads : Reads via mine s t out
+  pub reads : ReadsDatagrams via mine s t out
   pub last : StopsReading t.row mine
 
 -- ---- with the pass, and what is counted
@@ -104,7 +104,7 @@ pub record ReadsOnce {T : Type 0} (via : Via) (k l : Known T Input Heard) (s t :
   pub mine : List RunTurn
   pub out : ℕ
   pub went : Went mine k l
-  pub reads : Reads via mine s t out
+  pub reads : ReadsDatagrams via mine s t out
   pub counted : now.lost ≡ min (before.lost + out) (2 ^ 64 - 1)
   pub row : now.row ≡ t.row
   pub last : MatchBool over (StopsReading t.row mine) (t.row < 16)

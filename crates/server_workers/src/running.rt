@@ -11,7 +11,7 @@ ghost use Rattle.turnstile.specs.Passes.{known, table_of};
 ghost use Rattle.turnstile.specs.Turns.{of};
 ghost use Rattle.server_workers.specs.Entries.{AsksLeave, RunTurn};
 ghost use Rattle.server_workers.specs.Going.{Went};
-ghost use Rattle.server_workers.specs.Running.{ComesNext, Ends, IsLinkWorker, Keeps, KeepsAll, KeepsPair, LinkOpened, Over, ReaderNeverRan, ReaderRan, Rests, StartedAs, StopsAs, StopsFor, TakesLeaveAlone, end_after as end_after_test, ports_in, ports_next, ports_of, InOrder, NextInOrder, counted, number_in, numbers_of};
+ghost use Rattle.server_workers.specs.Running.{ComesNext, NoNextLink, IsLinkWorker, Keeps, KeepsAll, KeepsPair, LinkOpened, Over, ReaderNeverRan, ReaderRan, Rests, StartedAs, StopsAs, StopsFor, TakesLeaveAlone, end_after as end_after_test, ports_in, ports_next, ports_of, InOrder, NextInOrder, counted, number_in, numbers_of};
 
 use crate::base::RunBase;
 use crate::heard::Heard;
@@ -523,7 +523,7 @@ where
     requires row { (L.told dialer.old).row ≡ 0 }
     requires started { StartedAs L.In.told L.Out.told D.told (arc_value turnstile.now) (known pass.old) first.helper first.link_out past.old }
     ensures table { table_of pass.new ≡ table_of pass.old }
-    ensures ends { Ends L.In.told L.Out.told D.told result.0 (L.told dialer.old) (L.told dialer.new) (Rose (W.faults crew.old) (W.faults crew.new)) (known pass.old) (known pass.new) result.1 past.new }
+    ensures ends { NoNextLink L.In.told L.Out.told D.told result.0 (L.told dialer.old) (L.told dialer.new) (Rose (W.faults crew.old) (W.faults crew.new)) (known pass.old) (known pass.new) result.1 past.new }
     ensures stops { StopsFor result.0 (L.told dialer.new).row (W.faults crew.old) (W.faults crew.new) }
     ensures kept { Keeps (length past.old.pairs.items + 1) (length past.new.pairs.items) (L.made dialer.old) (L.made dialer.new) }
     ensures ports { ports_of D.told result.1 ≡ ports_in D.told first.helper }

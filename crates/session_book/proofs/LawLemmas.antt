@@ -20,7 +20,7 @@ use Rattle.session_book.specs.Aborts.{Deed, Nothing, Opens, Answers, Ages, Ends,
 use Rattle.session_book.specs.Book.{entry_of}
 use Rattle.session_book.specs.Places.{BookEvent, BookPlace, now, book, count, opened, open_aborts, sent_after, sent_so_far}
 use Rattle.session_book.specs.Reading.{AskParts}
-use Rattle.session_book.specs.History.{says, answer, answer_to, code_of, control, is_repeat, may_open, opening, known, client_at, first_answered, said_to, answered, tick_deed, is_closing, caught, link_phase, core_place, core_input, at_input, place, places, past}
+use Rattle.session_book.specs.History.{says, answer, answer_to, code_of, control, is_repeat, may_open, opening, on_session, client_at, first_answered, said_to, answered, tick_deed, is_closing, caught, link_phase, core_place, core_input, at_input, place, places, past}
 use Rattle.session_book.specs.Laws.{PassesOn, said_by, is_request, is_answer, said_so_far, IsLimited, IsTold, IsOpen, TellsOf}
 use Rattle.session_book.specs.State.{opens}
 use Rattle.session_book.proofs.Opening.{IsFresh, count-after}
@@ -214,12 +214,12 @@ no-room : (config : Config) (ask : AskParts) (n : ℕ) (entry : Entry) (b : Bool
 no-room config ask n entry true a ended e = no-opening config ask n entry (client_at config entry.address) a ended e
 no-room config ask n entry false a ended e = absurd (cc)
 
-no-known : (config : Config) (os : List OpenAbort) (ask : AskParts) (n : ℕ) (entry : Option Entry) (a : Abort) (ended : Bool) → (known config os ask n entry).deed ≡ Answers a ended → ⊥
+no-known : (config : Config) (os : List OpenAbort) (ask : AskParts) (n : ℕ) (entry : Option Entry) (a : Abort) (ended : Bool) → (on_session config os ask n entry).deed ≡ Answers a ended → ⊥
 no-known config os ask n None a ended e = absurd (cc)
 no-known config os ask n (Some entry) a ended e = no-room config ask n entry (may_open os ask n) a ended e
 
 no-asked : (config : Config) (os : List OpenAbort) (ask : AskParts) (n : ℕ) (entry : Option Entry) (b : Bool) (a : Abort) (ended : Bool)
-    → (cond b (says (Dropped AbortOpen)) (known config os ask n entry)).deed ≡ Answers a ended → ⊥
+    → (cond b (says (Dropped AbortOpen)) (on_session config os ask n entry)).deed ≡ Answers a ended → ⊥
 no-asked config os ask n entry true a ended e = absurd (cc)
 no-asked config os ask n entry false a ended e = no-known config os ask n entry a ended e
 

@@ -9,7 +9,7 @@ use Rattle.std.specs.Prelude.{nat_eq}
 use Rattle.radius_packet.specs.Packet.{PacketParts, packet_text, read_packet}
 use Rattle.radius_packet.specs.declared.fault.PacketFault.{PacketFault}
 use Rattle.disconnect_map.specs.Disconnects.{disconnect_text}
-use Rattle.disconnect_map.specs.Verdicts.{verdict_of, read_verdict, is_answer, code_verdict}
+use Rattle.disconnect_map.specs.Verdicts.{verdict_of, read_verdict, is_authentic_answer, code_verdict}
 use Rattle.agent_settings.specs.declared.config.Config.{Config}
 use Rattle.agent_settings.specs.declared.client.Client.{Client}
 use Rattle.agent_events.specs.declared.events.Input.{Input}
@@ -27,7 +27,7 @@ use Rattle.session_book.specs.Aborts.{Deed, Nothing, Opens, Answers, Ages, Ends,
 use Rattle.session_book.specs.Book.{entry_of}
 use Rattle.session_book.specs.Places.{BookEvent, BookPlace, now, book, count, opened, open_aborts, open_among, if_open, sent_so_far}
 use Rattle.session_book.specs.Reading.{AskParts}
-use Rattle.session_book.specs.History.{says, answer, is_repeat, is_in_the_way, may_open, opening, known, client_at, verdict_at, said_to, first_answered, answered, tick_deed, passed_deed, is_closing, caught, link_phase, core_place, core_input, at_input, place, places, past}
+use Rattle.session_book.specs.History.{says, answer, is_repeat, is_in_the_way, may_open, opening, on_session, client_at, verdict_at, said_to, first_answered, answered, tick_deed, passed_deed, is_closing, caught, link_phase, core_place, core_input, at_input, place, places, past}
 use Rattle.session_book.proofs.Members.{none-there, first-there, later-there, there-cases, each-there, each-filter, each-end}
 use Rattle.session_book.proofs.Opening.{Numbered, open-after}
 use Rattle.session_book.proofs.Simulation.{fresh-input, numbered-place}
@@ -119,12 +119,12 @@ apart-room config os ask n entry true e =
     (none-in-the-way ask n os (not-true (list_any (is_in_the_way ask n) os) both.1))
 apart-room config os ask n entry false e = tt
 
-apart-known : (config : Config) (os : List OpenAbort) (ask : AskParts) (n : ℕ) (entry : Option Entry) → IsApart (known config os ask n entry).deed os
+apart-known : (config : Config) (os : List OpenAbort) (ask : AskParts) (n : ℕ) (entry : Option Entry) → IsApart (on_session config os ask n entry).deed os
 apart-known config os ask n None = tt
 apart-known config os ask n (Some entry) = apart-room config os ask n entry (may_open os ask n) refl
 
 apart-either : (config : Config) (os : List OpenAbort) (ask : AskParts) (n : ℕ) (entry : Option Entry) (b : Bool)
-    → IsApart (cond b (says (Dropped AbortOpen)) (known config os ask n entry)).deed os
+    → IsApart (cond b (says (Dropped AbortOpen)) (on_session config os ask n entry)).deed os
 apart-either config os ask n entry true = tt
 apart-either config os ask n entry false = apart-known config os ask n entry
 
@@ -182,7 +182,7 @@ record HasId (octets : List ℕ) (a : Abort) : Type 0 where
   pub read : read_packet octets ≡ Ok packet
   pub id : packet.id ≡ slice_index a.request 1
 
-id-answer : (p : PacketParts) (secret request : List ℕ) (b : Bool) (v : Bool) → is_answer secret request p ≡ b
+id-answer : (p : PacketParts) (secret request : List ℕ) (b : Bool) (v : Bool) → is_authentic_answer secret request p ≡ b
     → cond b (code_verdict p.code) None ≡ Some v → p.id ≡ slice_index request 1
 id-answer p secret request true v found e = eqb-true p.id (slice_index request 1) (and_parts (eqb p.id (slice_index request 1)) _ found).0
 id-answer p secret request false v found e = absurd (cc)
@@ -190,7 +190,7 @@ id-answer p secret request false v found e = absurd (cc)
 id-read : (octets : List ℕ) (a : Abort) (secret : List ℕ) (r : Result PacketParts PacketFault) (v : Bool) → read_packet octets ≡ r
     → read_verdict secret a.request r ≡ Some v → HasId octets a
 id-read octets a secret (Ok p) v read e =
-    record { packet = p; read = read; id = id-answer p secret a.request (is_answer secret a.request p) v refl e }
+    record { packet = p; read = read; id = id-answer p secret a.request (is_authentic_answer secret a.request p) v refl e }
 id-read octets a secret (Err fault) v read e = absurd (cc)
 
 id-verdict : (client : Client) (octets : List ℕ) (a : Abort) (v : Bool) → verdict_of client a.request octets ≡ Some v → HasId octets a

@@ -24,7 +24,7 @@ use Rattle.session_book.specs.Places.{BookEvent, BookPlace, now, core_history, b
 use Rattle.session_book.specs.Reading.{AskParts}
 use Rattle.session_book.specs.declared.events.BookOutput.TheVariants.{Dropped}
 use Rattle.session_book.specs.declared.events.BookReason.TheVariants.{AbortOpen}
-use Rattle.session_book.specs.History.{Own, says, answer, is_repeat, may_open, opening, known, on_ask, first_answered, said_to, answered, on_control, client_at, tick_deed, passed_deed, passed_outputs, caught, link_phase, core_place, passed, own, core_input, at_input, place, places, past, book_outputs_after, is_closing}
+use Rattle.session_book.specs.History.{Own, says, answer, is_repeat, may_open, opening, on_session, on_ask, first_answered, said_to, answered, on_control, client_at, tick_deed, passed_deed, passed_outputs, caught, link_phase, core_place, passed, own, core_input, at_input, place, places, past, book_outputs_after, is_closing}
 use Rattle.session_book.specs.Standing.{BookState, BookStandsAt, BookStandsFor}
 use Rattle.session_book.specs.Promise.{IsBook}
 use Rattle.session_book.specs.State.{opens, Does, OwnSteps, CoreSteps, Steps, asked_of, place_after}
@@ -36,7 +36,7 @@ fresh-opening : (config : Config) (ask : AskParts) (n : ℕ) (entry : Entry) (cl
 fresh-opening config ask n entry None = tt
 fresh-opening config ask n entry (Some client) = refl
 
-fresh-known : (config : Config) (os : List OpenAbort) (ask : AskParts) (n : ℕ) (entry : Option Entry) → IsFresh (known config os ask n entry).deed n
+fresh-known : (config : Config) (os : List OpenAbort) (ask : AskParts) (n : ℕ) (entry : Option Entry) → IsFresh (on_session config os ask n entry).deed n
 fresh-known config os ask n None = tt
 fresh-known config os ask n (Some entry) =
     elim (may_open os ask n) as (λ b. IsFresh (cond b (opening config ask n entry (client_at config entry.address)) (says (answer config ask 5012))).deed n) [
@@ -47,7 +47,7 @@ fresh-known config os ask n (Some entry) =
 fresh-ask : (config : Config) (os : List OpenAbort) (n : ℕ) (entry : Option Entry) (ask : AskParts) → IsFresh (on_ask config os n entry ask).deed n
 fresh-ask config os n entry ask = fresh-either (list_any (is_repeat ask) os)
   where
-    fresh-either : (b : Bool) → IsFresh (cond b (says (Dropped AbortOpen)) (known config os ask n entry)).deed n
+    fresh-either : (b : Bool) → IsFresh (cond b (says (Dropped AbortOpen)) (on_session config os ask n entry)).deed n
     fresh-either true = tt
     fresh-either false = fresh-known config os ask n entry
 

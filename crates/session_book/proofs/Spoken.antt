@@ -20,7 +20,7 @@ use Rattle.session_book.specs.Aborts.{Deed, Nothing, Opens, Answers, Ages, Ends}
 use Rattle.session_book.specs.Book.{entry_of}
 use Rattle.session_book.specs.Places.{BookEvent, BookPlace, now, book, count, opened, open_aborts, open_among, if_open, with_opened, sent_so_far}
 use Rattle.session_book.specs.Reading.{AskParts}
-use Rattle.session_book.specs.History.{Own, says, answer, answer_to, code_of, control, overdue, deed_outputs, is_repeat, may_open, opening, known, client_at, said_to, first_answered, answered, tick_deed, passed_deed, is_closing, caught, link_phase, core_place, passed, own, core_input, at_input, place, places, past}
+use Rattle.session_book.specs.History.{Own, says, answer, answer_to, code_of, control, overdue, deed_outputs, is_repeat, may_open, opening, on_session, client_at, said_to, first_answered, answered, tick_deed, passed_deed, is_closing, caught, link_phase, core_place, passed, own, core_input, at_input, place, places, past}
 use Rattle.session_book.specs.Laws.{said_by, IsDirect, IsSaid}
 use Rattle.session_book.proofs.Members.{none-there, there-cases, each-there, each-end}
 use Rattle.session_book.proofs.Opening.{Numbered, IsFresh}
@@ -178,7 +178,7 @@ opening-said config ps at input ask entry (Some client) numbered is =
     record { first = []; is_first = refl; outputs = sym (opened-said config at _ (λ a. sent_so_far a ps) (opened ps) numbered) }
 
 known-said : (config : Config) (ps : List BookPlace) (at : ℕ) (input : Input) (ask : AskParts) (entry : Option Entry) → Numbered ps
-    → caught (link_phase config ps) input ≡ Some ask → OwnSaid config ps at (book_inputs.Core input) (known config (open_aborts ps) ask (count ps) entry)
+    → caught (link_phase config ps) input ≡ Some ask → OwnSaid config ps at (book_inputs.Core input) (on_session config (open_aborts ps) ask (count ps) entry)
 known-said config ps at input ask None numbered is =
     direct-said config ps at (book_inputs.Core input) (answer config ask 5002) (inr (ask, is, inl refl))
 known-said config ps at input ask (Some entry) numbered is =
@@ -188,7 +188,7 @@ known-said config ps at input ask (Some entry) numbered is =
     ]
 
 asked-said : (config : Config) (ps : List BookPlace) (at : ℕ) (input : Input) (ask : AskParts) (entry : Option Entry) (b : Bool) → Numbered ps
-    → caught (link_phase config ps) input ≡ Some ask → OwnSaid config ps at (book_inputs.Core input) (cond b (says (Dropped AbortOpen)) (known config (open_aborts ps) ask (count ps) entry))
+    → caught (link_phase config ps) input ≡ Some ask → OwnSaid config ps at (book_inputs.Core input) (cond b (says (Dropped AbortOpen)) (on_session config (open_aborts ps) ask (count ps) entry))
 asked-said config ps at input ask entry true numbered is = direct-said config ps at (book_inputs.Core input) (Dropped AbortOpen) (inl refl)
 asked-said config ps at input ask entry false numbered is = known-said config ps at input ask entry numbered is
 

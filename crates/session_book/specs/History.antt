@@ -109,9 +109,9 @@ opening config ask number entry (Some client) = record {
 }
 
 -- DIAMETER_UNKNOWN_SESSION_ID, DIAMETER_UNABLE_TO_COMPLY (section 7.1.5)
-abbrev pub known : Config → List OpenAbort → AskParts → ℕ → Option Entry → Own
-known config os ask number None = says (answer config ask 5002)
-known config os ask number (Some entry) =
+abbrev pub on_session : Config → List OpenAbort → AskParts → ℕ → Option Entry → Own
+on_session config os ask number None = says (answer config ask 5002)
+on_session config os ask number (Some entry) =
     if may_open os ask number
     then opening config ask number entry (client_at config entry.address)
     else says (answer config ask 5012)
@@ -119,7 +119,7 @@ known config os ask number (Some entry) =
 -- by the open aborts, how many were opened, and the session's entry
 abbrev pub on_ask : Config → List OpenAbort → ℕ → Option Entry → AskParts → Own
 on_ask config os number entry ask =
-    if list_any (is_repeat ask) os then says (Dropped AbortOpen) else known config os ask number entry
+    if list_any (is_repeat ask) os then says (Dropped AbortOpen) else on_session config os ask number entry
 
 -- ---- a datagram of an access server (RFC 5176, section 2.3)
 

@@ -64,8 +64,8 @@ abbrev pub asked_of : BookState → AskParts → Own
 asked_of S ask = on_ask S.core.config S.aborts S.opened (entry_of ask.session S.rows) ask
 
 -- what a datagram of an access server leads to
-abbrev pub told_of : BookState → ℕ → ℕ → List ℕ → Own
-told_of S address port octets = on_control S.core.config S.aborts address port octets
+abbrev pub own_on_control : BookState → ℕ → ℕ → List ℕ → Own
+own_on_control S address port octets = on_control S.core.config S.aborts address port octets
 
 -- ---- what goes to the core
 
@@ -110,4 +110,4 @@ CoreSteps H at input None old new outs =
 -- what a step does where the core stands for this history
 abbrev pub Steps : List places.Event → ℕ → BookInput → BookState → BookState → List BookOutput → Type 0
 Steps H at (book_inputs.Core input) old new outs = CoreSteps H at input (caught (phase_after old.core H) input) old new outs
-Steps H at (book_inputs.Control address port octets) old new outs = OwnSteps at (told_of old address port octets) old new outs
+Steps H at (book_inputs.Control address port octets) old new outs = OwnSteps at (own_on_control old address port octets) old new outs

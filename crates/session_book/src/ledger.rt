@@ -10,7 +10,7 @@ ghost use Rattle.session_book.specs.Aborts as aborts;
 ghost use Rattle.session_book.specs.Answers as answers;
 ghost use Rattle.session_book.specs.Book.{entry_of};
 ghost use Rattle.session_book.specs.Reading.{ask_view};
-ghost use Rattle.session_book.specs.State.{state_of, own_by, asked_of, told_of, DoesOwn, MayOpen};
+ghost use Rattle.session_book.specs.State.{state_of, own_by, asked_of, own_on_control, DoesOwn, MayOpen};
 
 use crate::aborts::{Abort, Aborts, Asked, MOST_OPEN, OpenAbort};
 use crate::answers::write_answer;
@@ -274,7 +274,7 @@ impl Ledger {
     ) -> Result<Considered, NoMemory>
         requires { InLimits self.now.core.config }
         ensures own { IfOk result (λ c. own_by c
-            ≡ history.known self.now.core.config self.now.aborts (ask_view ask.now) self.now.opened (option_copied entry.entry)) }
+            ≡ history.on_session self.now.core.config self.now.aborts (ask_view ask.now) self.now.opened (option_copied entry.entry)) }
         ensures room { IfOk result (λ c. MayOpen self.now.aborts c) }
     {
         let Some(entry) = entry else {
@@ -345,8 +345,8 @@ impl Ledger {
         octets: &[u8],
     ) -> Result<BookOutputs, NoMemory>
         requires { InLimits self.old.core.config }
-        ensures outputs { IfOk result (λ o. o ≡ (told_of (state_of self.old) address port octets.now).outputs) }
-        ensures state { OnOk result (DoesOwn moment (told_of (state_of self.old) address port octets.now) (state_of self.old) (state_of self.new)) }
+        ensures outputs { IfOk result (λ o. o ≡ (own_on_control (state_of self.old) address port octets.now).outputs) }
+        ensures state { OnOk result (DoesOwn moment (own_on_control (state_of self.old) address port octets.now) (state_of self.old) (state_of self.new)) }
         ensures err { OnErr result (self.new ≡ self.old) }
     {
         let config = self.core.config();

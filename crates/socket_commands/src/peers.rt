@@ -8,7 +8,7 @@ ghost use Rattle.socket_commands.specs.PeerEnds.{HomeCausedBy, HomeEnds, IsSound
 
 use agent_server::{Finish, Pair, World};
 use agent_status::Status;
-use peer_runs::{HomeEnd, Place, home, nas};
+use peer_runs::{HomeEnd, Target, home, nas};
 use std::alloc::Global;
 use std::sync::Wait;
 use wire_core::{Sink, Source};
@@ -77,7 +77,7 @@ where
 pub fn run_nas<R, S, K, C, D, L, W>(
     rt: &R,
     alloc: Global,
-    place: Place,
+    place: Target,
     millis: u64,
     input: &mut S,
     output: &mut K,

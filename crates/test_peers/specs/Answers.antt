@@ -94,6 +94,6 @@ abbrev pub reply_to : List User → MessageParts → Option (List ℕ)
 reply_to users m = if is_request m.header then Some (answer_text users m) else None
 
 -- and so is what is no message
-abbrev pub answered : List User → Result MessageParts MessageFault → Option (List ℕ)
-answered users (Ok m) = reply_to users m
-answered users (Err fault) = None
+abbrev pub answer_by_home : List User → Result MessageParts MessageFault → Option (List ℕ)
+answer_by_home users (Ok m) = reply_to users m
+answer_by_home users (Err fault) = None

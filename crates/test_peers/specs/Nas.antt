@@ -65,12 +65,12 @@ output_at nas moment got =
 
 -- ---- after it
 
-abbrev pub sent_by : NasOutput → Option ℕ → ℕ → Option ℕ
-sent_by Send sent moment = Some moment
-sent_by Wait sent moment = sent
-sent_by Reply sent moment = sent
-sent_by GaveUp sent moment = sent
+abbrev pub last_send : NasOutput → Option ℕ → ℕ → Option ℕ
+last_send Send sent moment = Some moment
+last_send Wait sent moment = sent
+last_send Reply sent moment = sent
+last_send GaveUp sent moment = sent
 
 abbrev pub nas_after : NasParts → ℕ → NasOutput → NasParts
 nas_after nas moment output =
-    record nas { first = Some (begun_at nas moment); sent = sent_by output nas.sent moment }
+    record nas { first = Some (begun_at nas moment); sent = last_send output nas.sent moment }

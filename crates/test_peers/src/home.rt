@@ -4,7 +4,7 @@ ghost use Rattle.std.specs.Prelude.{◌≡◌, List, IfOk, MatchResult};
 ghost use Rattle.diameter_message.specs.Message.{read_message};
 ghost use Rattle.test_peers.specs.declared.users.User.{User};
 ghost use Rattle.test_peers.specs.declared.fault.HomeFault.TheVariants as faults;
-ghost use Rattle.test_peers.specs.Answers.{answered};
+ghost use Rattle.test_peers.specs.Answers.{answer_by_home};
 ghost use Rattle.test_peers.specs.UserForm.{IsUserList};
 ghost use Rattle.test_peers.specs.Users.{Reads, users_in};
 
@@ -60,7 +60,7 @@ impl Home {
 
     /// The answer to a message: None where it is no message, or an answer itself.
     pub fn step(&mut self, message: &[u8]) -> Result<Option<Octets>, NoMemory>
-        ensures answer { IfOk result (λ answer. answer ≡ answered self.old (read_message message.now)) }
+        ensures answer { IfOk result (λ answer. answer ≡ answer_by_home self.old (read_message message.now)) }
         ensures users { self.new ≡ self.old }
     {
         let Ok(request) = parse(message) else {

@@ -12,7 +12,7 @@ use Rattle.text_lines.proofs.LineLemmas.{lines-cut, lines-front, lines-last}
 use Rattle.text_lines.proofs.StreamLemmas.{Consumes-held}
 use Rattle.transcript.specs.Positions.{TakesBad, TakesSome, TakesStep, TooLong}
 use Rattle.transcript.specs.Reading.{At, Step, read_line}
-use Rattle.transcript.specs.Taking.{Answers, IsEnding, IsOfLine, ReadsNone}
+use Rattle.transcript.specs.Taking.{ReadsNext, IsEnding, IsOfLine, ReadsNone}
 use Rattle.transcript.specs.declared.line.Line.{Line}
 use Rattle.transcript.specs.declared.line_fault.LineFault.{LineFault}
 use Rattle.transcript.specs.declared.line_fault.LineFault.TheVariants as fault
@@ -40,7 +40,7 @@ bad-step number reason at (Err why) new takes = takes
 pub line-answers : (answer : Result (Option Line) LineFault) (at : At) (before left : Option (List ℕ)) (old new : Cutting) (reader : LineReader) (ended : Bool) (ending : List ℕ)
     → TakesSome answer at (read_line at new.line) reader → IsUnended new.line → IsEnding ended (rest_of new left) new.line ending
     → Consumes before (rest_of new left) (new.line ++ ending) → new.held.passed ≡ old.held.passed + length (new.line ++ ending)
-    → Answers answer at before (rest_of new left) left old new reader ended
+    → ReadsNext answer at before (rest_of new left) left old new reader ended
 line-answers (Ok (Some said)) at before left old new reader ended ending takes unended is taken passed = record {
   octets = new.line;
   ending = ending;

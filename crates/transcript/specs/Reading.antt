@@ -123,9 +123,9 @@ read_from at [] = record { lines = []; stop = None }
 read_from at (octets ∷ more) = said_on at (read_line at octets) (λ next. read_from next more)
 
 -- what a text says
-abbrev pub said_by : List ℕ → Said
-said_by text = read_from start (lines_of text)
+abbrev pub said_in_text : List ℕ → Said
+said_in_text text = read_from start (lines_of text)
 
 -- the text is a transcript of these lines
 abbrev pub IsTranscript : List ℕ → List Line → Type 0
-IsTranscript text lines = said_by text ≡ record { lines = lines; stop = None }
+IsTranscript text lines = said_in_text text ≡ record { lines = lines; stop = None }

@@ -44,11 +44,11 @@ ReadsNone fault.Long at before left old = (xs : List ℕ) × ((x : ℕ) × IsUne
 ReadsNone fault.NoMemory at before left old = (xs : List ℕ) × Consumes before left xs
 
 -- what asking for the next line answers
-abbrev pub Answers : Result (Option Line) LineFault → At → Option (List ℕ) → Option (List ℕ) → Option (List ℕ) → Cutting → Cutting → LineReader → Bool → Type 0
-Answers (Ok (Some said)) at before now left old new reader ended = ReadsLine at before now old new reader ended said
-Answers (Ok None) at before now left old new reader ended =
+abbrev pub ReadsNext : Result (Option Line) LineFault → At → Option (List ℕ) → Option (List ℕ) → Option (List ℕ) → Cutting → Cutting → LineReader → Bool → Type 0
+ReadsNext (Ok (Some said)) at before now left old new reader ended = ReadsLine at before now old new reader ended said
+ReadsNext (Ok None) at before now left old new reader ended =
     (now ≡ before) × IsAtEnd before × (ended ≡ true) × (new.held.passed ≡ old.held.passed) × IsReading reader at
-Answers (Err fault) at before now left old new reader ended = ReadsNone fault at before left old
+ReadsNext (Err fault) at before now left old new reader ended = ReadsNone fault at before left old
 
 -- a fault of the octets as a fault of the line
 abbrev pub IsOfLine : RawFault → At → LineFault → Type 0

@@ -5,7 +5,7 @@ ghost use Rattle.wire_core.specs.Counts.{Counts};
 ghost use Rattle.text_lines.specs.Streams.{rest_of};
 ghost use Rattle.transcript.specs.Positions.{IsReading};
 ghost use Rattle.transcript.specs.Reading.{At, start, start_with_control};
-ghost use Rattle.transcript.specs.Taking.{Answers, IsOfLine};
+ghost use Rattle.transcript.specs.Taking.{ReadsNext, IsOfLine};
 ghost use Rattle.transcript.specs.declared.line_fault.LineFault.{LineFault};
 ghost use Rattle.transcript.specs.declared.line_fault.LineFault.TheVariants.{Read};
 
@@ -79,7 +79,7 @@ impl<'a, S: Source> Lines<'a, S> {
         ensures same_source { self.new.source.ghost_name ≡ self.old.source.ghost_name }
         ensures limit { self.new.raw.longest ≡ self.old.raw.longest }
         ensures answers { (at : At) → IsReading self.old.reader at → self.old.is_ended ≡ false → self.old.raw.longest ≡ 140000
-            → Answers result at (rest_of self.old.raw (S.left self.old.source.now)) (rest_of self.new.raw (S.left self.new.source.now))
+            → ReadsNext result at (rest_of self.old.raw (S.left self.old.source.now)) (rest_of self.new.raw (S.left self.new.source.now))
             (S.left self.new.source.now) self.old.raw self.new.raw self.new.reader self.new.is_ended }
         ensures refused { IfErr result (λ fault. self.new.reader.refused ≡ Some fault) }
         ensures over { (fault : LineFault) → self.old.reader.refused ≡ Some fault

@@ -17,7 +17,7 @@ use Rattle.text_commands.specs.Transcripts.{FollowsLine, IsFailure}
 use Rattle.transcript.specs.declared.line.Line.{Line}
 use Rattle.transcript.specs.declared.line.Line.TheVariants as line
 use Rattle.transcript.proofs.FollowLemmas.{after-append, given_by-more}
-use Rattle.transcript_runs.specs.Runs.{Running, Settings, Stage, Telling, event_at, first, follow, inputs_told, line_told, places_after, rule_of, stage_after}
+use Rattle.transcript_runs.specs.Runs.{Running, Settings, Stage, Telling, event_at, first_stage, follow, inputs_told, line_told, places_after, rule_of, stage_after}
 use Rattle.transcript_runs.specs.Sessions.{Follows, HasFollowed, IsAt, RunsAt, RunsOn, begun}
 use Rattle.transcript_runs.specs.declared.session.Session.{Session}
 
@@ -139,15 +139,15 @@ module _ {T : Type 0} (told : T → Config → List Place → Type 0) (telling :
   -- ---- a line, after those before it
 
   pub follows-line : (r : Result Unit Status) (session : Session T) (lines : List Line) (said : Line) (before now : Option (List ℕ))
-      → OnOk r (Follows told telling session (stage_after first lines) said before now)
-      → AppendsPrefix before now (line_told telling.text (stage_after first lines) said) → IfErr r IsFailure
+      → OnOk r (Follows told telling session (stage_after first_stage lines) said before now)
+      → AppendsPrefix before now (line_told telling.text (stage_after first_stage lines) said) → IfErr r IsFailure
       → FollowsLine (rule_of telling) (λ ls. HasFollowed told session ls) r lines said before now
   follows-line (Ok done) session lines said before now (at, wrote) part failure = (
-    subst (IsAt told session) (sym (after-append follow first lines (said ∷ []))) at,
-    (line_told telling.text (stage_after first lines) said, given_by-more follow (line_told telling.text) first lines said, wrote),
+    subst (IsAt told session) (sym (after-append follow first_stage lines (said ∷ []))) at,
+    (line_told telling.text (stage_after first_stage lines) said, given_by-more follow (line_told telling.text) first_stage lines said, wrote),
   )
   follows-line (Err status) session lines said before now done part failure =
-      (failure, (line_told telling.text (stage_after first lines) said, given_by-more follow (line_told telling.text) first lines said, part))
+      (failure, (line_told telling.text (stage_after first_stage lines) said, given_by-more follow (line_told telling.text) first_stage lines said, part))
 
 -- ---- what is told of an input, where what the teller tells stays
 

@@ -4,7 +4,7 @@ use Rattle.transcript.specs.Told.{told_by, told_on}
 use Rattle.transcript.specs.declared.line.Line.{Line}
 use Rattle.transcript.specs.declared.line.Line.TheVariants as line
 use Rattle.transcript.proofs.FollowLemmas.{after-seen}
-use Rattle.transcript_runs.specs.Runs.{Running, Settings, Stage, first, follow, stage_after, told_of}
+use Rattle.transcript_runs.specs.Runs.{Running, Settings, Stage, first_stage, follow, stage_after, told_of}
 
 -- ---- what was told
 
@@ -20,5 +20,5 @@ told-on (Running config ps) (line.Client number client) = refl
 told-on (Running config ps) (line.Event number moment inputs) = refl
 told-on (Running config ps) (line.Control number moment address port octets) = refl
 
-pub told-so-far : (lines : List Line) → told_of (stage_after first lines) ≡ told_by lines
-told-so-far lines = after-seen follow told_on told_of told-on first lines
+pub told-so-far : (lines : List Line) → told_of (stage_after first_stage lines) ≡ told_by lines
+told-so-far lines = after-seen follow told_on told_of told-on first_stage lines

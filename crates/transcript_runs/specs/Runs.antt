@@ -40,8 +40,8 @@ follow (Running config ps) (line.Client number client) = Running config ps
 follow (Running config ps) (line.Event number moment inputs) = Running config (places_after config ps moment inputs)
 follow (Running config ps) (line.Control number moment address port octets) = Running config ps
 
-abbrev pub first : Stage
-first = Settings None
+abbrev pub first_stage : Stage
+first_stage = Settings None
 
 abbrev pub stage_after : Stage → List Line → Stage
 stage_after stage lines = after_lines follow stage lines
@@ -88,6 +88,6 @@ module _ (text : ℕ → Config → List Place → Event → List ℕ) where
 abbrev pub rule_of : Telling → Rule
 rule_of telling = record {
   controls = false;
-  text = λ lines. lines_told telling.text first lines;
-  close = λ lines. telling.end (stage_after first lines);
+  text = λ lines. lines_told telling.text first_stage lines;
+  close = λ lines. telling.end (stage_after first_stage lines);
 }

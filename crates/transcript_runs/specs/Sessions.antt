@@ -7,7 +7,7 @@ use Rattle.agent_core.specs.Places.{Event, Place}
 use Rattle.agent_core.specs.History.{place, past}
 use Rattle.agent_core.specs.Standing.{StandsFor}
 use Rattle.transcript.specs.declared.line.Line.{Line}
-use Rattle.transcript_runs.specs.Runs.{Stage, Settings, Running, Telling, first, follow, line_told, stage_after}
+use Rattle.transcript_runs.specs.Runs.{Stage, Settings, Running, Telling, first_stage, follow, line_told, stage_after}
 use Rattle.transcript_runs.specs.declared.session.Session.{Session}
 
 module _ {T : Type 0} (told : T → Config → List Place → Type 0) where
@@ -48,7 +48,7 @@ module _ {T : Type 0} (told : T → Config → List Place → Type 0) where
 
   -- the session has followed these lines
   abbrev pub HasFollowed : Session T → List Line → Type 0
-  HasFollowed session lines = IsAt session (stage_after first lines)
+  HasFollowed session lines = IsAt session (stage_after first_stage lines)
 
 -- the core is made of the settings that were told
 abbrev pub begun : Stage → Stage

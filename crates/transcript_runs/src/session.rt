@@ -9,7 +9,7 @@ ghost use Rattle.agent_core.specs.Places.{Place};
 ghost use Rattle.transcript.specs.Told.{CanFollow};
 ghost use Rattle.transcript.specs.declared.line.Line.TheVariants as line;
 ghost use Rattle.text_commands.specs.Transcripts.{IsFailure};
-ghost use Rattle.transcript_runs.specs.Runs.{Stage, first, follow as stage_on, inputs_told, line_told, places_after, rule_of, told_of};
+ghost use Rattle.transcript_runs.specs.Runs.{Stage, first_stage, follow as stage_on, inputs_told, line_told, places_after, rule_of, told_of};
 ghost use Rattle.transcript_runs.specs.Sessions.{Follows, HasFollowed, IsAt, RunsAt, begun};
 
 use crate::teller::Teller;

@@ -21,7 +21,7 @@ use Rattle.translation.specs.declared.service.Service.{Service}
 use Rattle.translation.specs.declared.service.Service.TheVariants.{Nasreq, Eap}
 use Rattle.translation.specs.declared.class.Class.{Class}
 use Rattle.translation.specs.declared.class.Class.TheVariants.{Bad, Refusal, Challenge, Success}
-use Rattle.translation.specs.Reading.{group_number, has_fault, has_unknown, has_bad_payload, is_challenge, kind_of, state_by, first_identity}
+use Rattle.translation.specs.Reading.{group_number, has_fault, has_unknown, has_bad_payload, is_challenge, result_class, state_by, first_identity}
 use Rattle.translation.specs.Replies.{optional, session_code, carrier_value, image, image_of, images, reply_code, timeouts, eap_messages, reply_attributes, fits_packet, access_reply, bare_reply}
 use Rattle.translation.specs.Pushing.{Pushes}
 use Rattle.translation.specs.Answers.{is_error, is_of_other_session, has_refused_key, is_stateless, class_of, class_of_kind, outcome_of, outcome_in}
@@ -141,21 +141,21 @@ kind-by true b e = cc
 kind-by false true e = cc
 kind-by false false e = cc
 
-kind_sound : (result : ℕ) → kind_of result ≡ Bad → ⊥
+kind_sound : (result : ℕ) → result_class result ≡ Bad → ⊥
 kind_sound result e = kind-by _ _ e
 
 -- ---- with flag E or without
 
-sound-by : (error : Bool) (service : Service) (client : Client) (kept : Kept) (avps : List AvpParts) → let kind = kind_of (result_code avps) in let first = cond error Refusal (first_kind kind service client kept avps) in let class = cond error Refusal (class_of_kind kind service client kept avps) in let F = λ (c : Class). fits_packet (reply_attributes service c kept avps) in (first ≡ Bad → ⊥) → reply_in service first client kept avps (not error) ≡ unless_bad (fit F class) (access_reply service (fit F class) client kept avps)
+sound-by : (error : Bool) (service : Service) (client : Client) (kept : Kept) (avps : List AvpParts) → let kind = result_class (result_code avps) in let first = cond error Refusal (first_kind kind service client kept avps) in let class = cond error Refusal (class_of_kind kind service client kept avps) in let F = λ (c : Class). fits_packet (reply_attributes service c kept avps) in (first ≡ Bad → ⊥) → reply_in service first client kept avps (not error) ≡ unless_bad (fit F class) (access_reply service (fit F class) client kept avps)
 sound-by true service client kept avps first =
     kind_fit (λ c. access_reply service c client kept avps) Refusal (fits_packet (reply_attributes service Refusal kept avps)) (λ e. cc)
 sound-by false service client kept avps first =
-    sound_cases (λ c. fits_packet (reply_attributes service c kept avps)) (λ c. has_fault c avps) (λ c. is_stateless c kept avps) (λ c. access_reply service c client kept avps) (kind_of (result_code avps)) (is_of_other_session kept avps) (has_unknown avps) (has_refused_key client avps) (has_bad_payload service (kind_of (result_code avps)) avps) (kind_sound (result_code avps)) first
+    sound_cases (λ c. fits_packet (reply_attributes service c kept avps)) (λ c. has_fault c avps) (λ c. is_stateless c kept avps) (λ c. access_reply service c client kept avps) (result_class (result_code avps)) (is_of_other_session kept avps) (has_unknown avps) (has_refused_key client avps) (has_bad_payload service (result_class (result_code avps)) avps) (kind_sound (result_code avps)) first
 
-bad-by : (error : Bool) (service : Service) (client : Client) (kept : Kept) (avps : List AvpParts) → let kind = kind_of (result_code avps) in let first = cond error Refusal (first_kind kind service client kept avps) in let class = cond error Refusal (class_of_kind kind service client kept avps) in let F = λ (c : Class). fits_packet (reply_attributes service c kept avps) in first ≡ Bad → None ≡ unless_bad (fit F class) (access_reply service (fit F class) client kept avps)
+bad-by : (error : Bool) (service : Service) (client : Client) (kept : Kept) (avps : List AvpParts) → let kind = result_class (result_code avps) in let first = cond error Refusal (first_kind kind service client kept avps) in let class = cond error Refusal (class_of_kind kind service client kept avps) in let F = λ (c : Class). fits_packet (reply_attributes service c kept avps) in first ≡ Bad → None ≡ unless_bad (fit F class) (access_reply service (fit F class) client kept avps)
 bad-by true service client kept avps first = absurd cc
 bad-by false service client kept avps first =
-    bad_cases (λ c. fits_packet (reply_attributes service c kept avps)) (λ c. access_reply service c client kept avps) (kind_of (result_code avps)) (is_of_other_session kept avps) (has_unknown avps) (has_refused_key client avps) (has_fault (kind_of (result_code avps)) avps) (has_bad_payload service (kind_of (result_code avps)) avps) (is_stateless (kind_of (result_code avps)) kept avps) (kind_sound (result_code avps)) first
+    bad_cases (λ c. fits_packet (reply_attributes service c kept avps)) (λ c. access_reply service c client kept avps) (result_class (result_code avps)) (is_of_other_session kept avps) (has_unknown avps) (has_refused_key client avps) (has_fault (result_class (result_code avps)) avps) (has_bad_payload service (result_class (result_code avps)) avps) (is_stateless (result_class (result_code avps)) kept avps) (kind_sound (result_code avps)) first
 
 pub first_sound : (service : Service) (client : Client) (kept : Kept) (header : Header) (avps : List AvpParts) → (first_class service client kept header avps ≡ Bad → ⊥) → reply_in service (first_class service client kept header avps) client kept avps (not (is_error header)) ≡ unless_bad (class_of service client kept header avps) (access_reply service (class_of service client kept header avps) client kept avps)
 unfolding class_of

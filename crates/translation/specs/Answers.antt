@@ -14,7 +14,7 @@ use Rattle.translation.specs.declared.service.Service.{Service}
 use Rattle.translation.specs.declared.service.Service.TheVariants.{Nasreq, Eap}
 use Rattle.translation.specs.declared.class.Class.{Class}
 use Rattle.translation.specs.declared.class.Class.TheVariants.{Bad, Refusal, Challenge, Success}
-use Rattle.translation.specs.Reading.{has_own_session, has_unknown, has_key, has_fault, has_bad_payload, is_challenge, kind_of, first_identity}
+use Rattle.translation.specs.Reading.{has_own_session, has_unknown, has_key, has_fault, has_bad_payload, is_challenge, result_class, first_identity}
 use Rattle.translation.specs.Replies.{carrier_value, reply_attributes, fits_packet, access_reply}
 use Rattle.translation.specs.Termination.{termination_text}
 
@@ -50,7 +50,7 @@ class_of_kind kind service client kept avps =
 -- the class before the length of the reply is looked at
 abbrev pub class_by_avps : Service → Client → Kept → Header → List AvpParts → Class
 class_by_avps service client kept header avps =
-    if is_error header then Refusal else class_of_kind (kind_of (result_code avps)) service client kept avps
+    if is_error header then Refusal else class_of_kind (result_class (result_code avps)) service client kept avps
 
 -- a reply that would pass 4096 octets makes the answer bad
 abbrev pub class_that_fits : Service → Class → Kept → List AvpParts → Class

@@ -8,7 +8,7 @@ use Rattle.agent_settings.specs.declared.client.Client.{Client}
 use Rattle.translation.specs.declared.service.Service.{Service}
 use Rattle.translation.specs.declared.class.Class.{Class}
 use Rattle.translation.specs.declared.class.Class.TheVariants.{Bad, Refusal, Challenge, Success}
-use Rattle.translation.specs.Reading.{has_fault, has_unknown, has_bad_payload, kind_of}
+use Rattle.translation.specs.Reading.{has_fault, has_unknown, has_bad_payload, result_class}
 use Rattle.translation.specs.Replies.{reply_attributes, fits_packet, access_reply}
 use Rattle.translation.specs.Answers.{is_error, is_of_other_session, has_refused_key, is_stateless}
 
@@ -30,7 +30,7 @@ first_kind kind service client kept avps =
 
 abbrev pub first_class : Service → Client → Kept → Header → List AvpParts → Class
 first_class service client kept header avps =
-    if is_error header then Refusal else first_kind (kind_of (result_code avps)) service client kept avps
+    if is_error header then Refusal else first_kind (result_class (result_code avps)) service client kept avps
 
 -- the text, unless the class is bad
 abbrev pub unless_bad : Class → List ℕ → Option (List ℕ)

@@ -122,8 +122,8 @@ has_bad_payload Eap class avps =
 
 -- ---- the kind by the Result-Code (RFC 6733, section 7.1)
 
-abbrev pub kind_of : ℕ → Class
-kind_of result = if result == 1001 then Challenge else (if is_success result then Success else Refusal)
+abbrev pub result_class : ℕ → Class
+result_class result = if result == 1001 then Challenge else (if is_success result then Success else Refusal)
 
 -- ---- the State of a challenge
 
@@ -143,5 +143,5 @@ state_by (Some host) None session = None
 state_by (Some host) (Some realm) session = short_value (state_text host realm session)
 
 -- the answer's Origin-Host and Origin-Realm and the request's session, where they are identities and fit
-abbrev pub state_of : List ℕ → List AvpParts → Option (List ℕ)
-state_of session avps = state_by (first_identity 264 avps) (first_identity 296 avps) session
+abbrev pub state_value : List ℕ → List AvpParts → Option (List ℕ)
+state_value session avps = state_by (first_identity 264 avps) (first_identity 296 avps) session

@@ -20,7 +20,7 @@ use Rattle.translation.specs.declared.service.Service.{Service}
 use Rattle.translation.specs.declared.service.Service.TheVariants.{Nasreq, Eap}
 use Rattle.translation.specs.declared.class.Class.{Class}
 use Rattle.translation.specs.declared.class.Class.TheVariants.{Bad, Refusal, Challenge, Success}
-use Rattle.translation.specs.Reading.{goes_back, takes_groups, is_key_avp, fits_vendor, group_number, state_of}
+use Rattle.translation.specs.Reading.{goes_back, takes_groups, is_key_avp, fits_vendor, group_number, state_value}
 
 abbrev pub attribute : ℕ → List ℕ → AttributeParts
 attribute code value = record { code = code; value = value }
@@ -44,7 +44,7 @@ session_code _ = 24
 
 abbrev pub carrier_value : Class → List ℕ → List AvpParts → Option (List ℕ)
 carrier_value Success session avps = Some (class_text session)
-carrier_value Challenge session avps = state_of session avps
+carrier_value Challenge session avps = state_value session avps
 carrier_value _ session avps = None
 
 abbrev pub carrier : Class → List ℕ → List AvpParts → List AttributeParts

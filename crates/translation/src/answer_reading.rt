@@ -168,7 +168,7 @@ pub fn has_bad_payload(service: Service, class: Class, list: &[Avp<'_>]) -> bool
 
 /// The class that a Result-Code alone gives.
 pub fn kind_of(code: u32) -> Class
-    ensures { result ≡ specs.kind_of code }
+    ensures { result ≡ specs.result_class code }
 {
     if code == MULTI_ROUND {
         Class::Challenge

@@ -80,7 +80,7 @@ fn short_state(
 
 /// The State that the answer to a challenge brings back, where it can be made.
 fn state_value(alloc: Global, session: &[u8], list: &[Avp<'_>]) -> Result<Option<Octets>, NoMemory>
-    ensures { IfOk result (λ value. value ≡ reading.state_of session.now (list_view list.now)) }
+    ensures { IfOk result (λ value. value ≡ reading.state_value session.now (list_view list.now)) }
 {
     let Some(host) = first_identity(list, ORIGIN_HOST) else {
         return Ok(None);

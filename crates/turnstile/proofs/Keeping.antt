@@ -15,7 +15,7 @@ use Rattle.turnstile.specs.declared.view.Stage.{Stage}
 use Rattle.turnstile.specs.declared.view.Stage.TheVariants.{Idle, Waits, Serves}
 use Rattle.turnstile.specs.Turns.{Turn, StartsWith, longer, In, Distinct, least, greatest, without, of, plain, Numbered}
 use Rattle.turnstile.specs.Knowing.{Stands, fresh, left_of, right_of}
-use Rattle.turnstile.specs.Order.{tickets, HasTicket, waiting, holding, idle, AtStage, Holds, Told, Fits, Apart, Longest, Follows, InSlot, Kept, looked, finished, drew, after, raised, both, spent, Agree, learned}
+use Rattle.turnstile.specs.Order.{tickets, HasTicket, waiting, holding, idle, AtStage, StaysTrue, JoinedStayTrue, Fits, Apart, Longest, StandsAfter, InSlot, TurnsInOrder, looked, finished, drew, after, raised, both, spent, Agree, learned}
 use Rattle.turnstile.proofs.Lists.{total_set, total_end, total_two, total_below, each_set, at_end, inside, pairs_set, pairs_end, least-in, greatest-in, in-without, without-distinct, length-without, in-append, in-left, in-right, distinct-append, of-append, of-other, numbered-end, starts_whole, starts_more, longer_begins, squeeze, begin_both}
 
 module _ {A B : Type 0} where
@@ -49,14 +49,14 @@ module _ {D A B : Type 0} where
     staged = stage_later all drawn drawn' v.known.seen v.stage le f.staged;
   }
 
-  holds_more : (first : D) (all : List (Turn A B)) (m : ℕ) (t : Option (A × B)) (k : Known D A B) → ((n : ℕ) → In n k.numbers → n ≢ m) → Holds first all k → Holds first (all ++ (m, t) ∷ []) k
+  holds_more : (first : D) (all : List (Turn A B)) (m : ℕ) (t : Option (A × B)) (k : Known D A B) → ((n : ℕ) → In n k.numbers → n ≢ m) → StaysTrue first all k → StaysTrue first (all ++ (m, t) ∷ []) k
   holds_more first all m t k ne h = record {
     from = h.from;
     begins = starts_more all k.seen ((m, t) ∷ []) h.begins;
     own = λ n i. h.own n i ∙ sym (of-append n all ((m, t) ∷ []) ∙ (ap (λ (r : List (Option (A × B))). of n all ++ r) (of-other n m t (ne n i)) ∙ append-nil (of n all)));
   }
 
-  told_more : (first : D) (all : List (Turn A B)) (m : ℕ) (t : Option (A × B)) (numbers : List ℕ) (ks : List (Known D A B)) → ((n : ℕ) → In n numbers → n ≢ m) → Told first all numbers ks → Told first (all ++ (m, t) ∷ []) numbers ks
+  told_more : (first : D) (all : List (Turn A B)) (m : ℕ) (t : Option (A × B)) (numbers : List ℕ) (ks : List (Known D A B)) → ((n : ℕ) → In n numbers → n ≢ m) → JoinedStayTrue first all numbers ks → JoinedStayTrue first (all ++ (m, t) ∷ []) numbers ks
   told_more first all m t numbers [] ne h = tt
   told_more first all m t numbers (k ∷ ks) ne h = (holds_more first all m t k (λ n i. ne n (h.1 n i)) h.0, h.1, told_more first all m t numbers ks ne h.2)
 
@@ -94,7 +94,7 @@ module _ {D A B Base : Type 0} (stands : D → Base → List (Option (A × B)) �
   Homes = List (maybe.Option (Option D))
 
   abbrev Rule : St → Type 0
-  Rule = Kept stands first
+  Rule = TurnsInOrder stands first
 
   abbrev Goes : ℕ → M → ℕ → (ℕ → ℕ) → (ℕ → M → Type 0) → List V → List ℕ → Homes → Type 0
   Goes id me i f then views words homes = (w : V) × (a : Act (Option D)) × Valid homes me.1 a
@@ -116,7 +116,7 @@ module _ {D A B Base : Type 0} (stands : D → Base → List (Option (A × B)) �
 
   -- where nobody serves, the desk is in the slot
   at_home : (all : List (Turn A B)) (vs : List V) (slot : maybe.Option (Option D)) → InSlot stands first all vs slot → ((i : ℕ) (v : V) → get_elem? vs i ≡ some v → v.stage ≡ Serves (length all) → ⊥)
-      → (desk : D) × (slot ≡ some (Some desk)) × Follows stands first all desk
+      → (desk : D) × (slot ≡ some (Some desk)) × StandsAfter stands first all desk
   at_home all vs (some y) h never = (h.0, ap some h.1, h.2)
   at_home all vs none h never = absurd (never h.0 h.1 h.2 h.3)
 
@@ -145,7 +145,7 @@ module _ {D A B Base : Type 0} (stands : D → Base → List (Option (A × B)) �
   few : (s : St) (k : Rule s) → k.drawn ≤ length k.all + 4
   few s k = let l = total_below waiting holding s.views (λ i v at. (k.fits i v at).ticketed) in let o = k.out in let f = k.four in omega arith
 
-  carried : (v : V) (all : List (Turn A B)) (desk : D) → v.known.first ≡ Some first → Follows stands first all desk → Stands stands v.known desk all
+  carried : (v : V) (all : List (Turn A B)) (desk : D) → v.known.first ≡ Some first → StandsAfter stands first all desk → Stands stands v.known desk all
   carried v all desk from follows base c = let same : c.0 ≡ first = (let e : Some c.0 ≡ Some first = sym c.1 ∙ from in cc) in follows base (subst (λ (d : D). stands d base []) same c.2)
 
   pub draws : (slots id : ℕ) (me : M) → me.0.stage ≡ Idle → 0 < length me.0.known.numbers → Allows Rule slots id me 0 (λ n. (n + 1) % 2 ^ 64) (drew (step slots 0 1 0 none) me)
@@ -175,7 +175,7 @@ module _ {D A B Base : Type 0} (stands : D → Base → List (Option (A × B)) �
   -- the seat with the ticket that is due takes the desk
   due_at : (s : St) (k : Rule s) (id t : ℕ) (v w : V) → get_elem? s.views id ≡ some v → v.stage ≡ Waits t → length k.all ≡ t → t < k.drawn
       → w ≡ record { known = record { first = v.known.first; numbers = v.known.numbers; seen = k.all }; told = v.told; stage = Serves t }
-      → (desk : D) × (k.slot ≡ some (Some desk)) × Follows stands first k.all desk
+      → (desk : D) × (k.slot ≡ some (Some desk)) × StandsAfter stands first k.all desk
       × Rule record { words = k.drawn % 2 ^ 64 ∷ length k.all % 2 ^ 64 ∷ []; homes = none ∷ []; views = set s.views id w }
   due_at s k id t v w at is here drawn w_is =
       let f = k.fits id v at in let one : waiting v ≡ 1 = ap tickets is in let ticketed = f.ticketed in
@@ -299,7 +299,7 @@ module _ {D A B Base : Type 0} (stands : D → Base → List (Option (A × B)) �
       )
 
   -- two pasts that hold, of which what is seen is the longer, agree with it
-  agrees : (all : List (Turn A B)) (k v u : Known D A B) → Holds first all v → Holds first all u → 0 < length v.numbers → 0 < length u.numbers → k.seen ≡ longer v.seen u.seen → Agree k v u
+  agrees : (all : List (Turn A B)) (k v u : Known D A B) → StaysTrue first all v → StaysTrue first all u → 0 < length v.numbers → 0 < length u.numbers → k.seen ≡ longer v.seen u.seen → Agree k v u
   agrees all k v u hv hu some_v some_u is = let l = longer_begins all v.seen u.seen hv.begins hu.begins in record {
     first = hv.from some_v ∙ sym (hu.from some_u);
     begins = subst (λ (x : List (Turn A B)). StartsWith x v.seen × StartsWith x u.seen) (sym is) (l.1, l.2);
@@ -327,7 +327,7 @@ module _ {D A B Base : Type 0} (stands : D → Base → List (Option (A × B)) �
             (slot_set k.all s.views id v w at (λ e. let z : Idle ≡ Serves (length k.all) = sym is ∙ e in cc) k.slot k.there),
         (
           ap (λ (r : List (ℕ × Option D)). (w, r)) bare,
-          λ a b told_is some_a some_b seen_is. let t : Told first k.all v.known.numbers (a ∷ b ∷ []) = subst (Told first k.all v.known.numbers) told_is f.told in
+          λ a b told_is some_a some_b seen_is. let t : JoinedStayTrue first k.all v.known.numbers (a ∷ b ∷ []) = subst (JoinedStayTrue first k.all v.known.numbers) told_is f.told in
               agrees k.all v.known a b t.0 t.2.0 some_a some_b seen_is,
         ),
       )

@@ -50,24 +50,24 @@ module _ {D A B : Type 0} where
   spent = idle (record { first = None; numbers = []; seen = [] })
 
   -- what was known stays true: it begins all turns, and has all that were taken under its numbers
-  pub record Holds (first : D) (all : List (Turn A B)) (k : Known D A B) : Type 0 where
+  pub record StaysTrue (first : D) (all : List (Turn A B)) (k : Known D A B) : Type 0 where
     pub from : 0 < length k.numbers → k.first ≡ Some first
     pub begins : StartsWith all k.seen
     pub own : (n : ℕ) → In n k.numbers → of n k.seen ≡ of n all
 
   -- what was known by passes that were joined, whose numbers are now this seat's
-  abbrev pub Told : D → List (Turn A B) → List ℕ → List (Known D A B) → Type 0
-  Told first all numbers [] = Unit {0}
-  Told first all numbers (k ∷ ks) = Holds first all k × ((n : ℕ) → In n k.numbers → In n numbers) × Told first all numbers ks
+  abbrev pub JoinedStayTrue : D → List (Turn A B) → List ℕ → List (Known D A B) → Type 0
+  JoinedStayTrue first all numbers [] = Unit {0}
+  JoinedStayTrue first all numbers (k ∷ ks) = StaysTrue first all k × ((n : ℕ) → In n k.numbers → In n numbers) × JoinedStayTrue first all numbers ks
 
   -- each seat but one that was given up has at least one number
   pub record Fits (first : D) (all : List (Turn A B)) (drawn : ℕ) (v : View D A B) : Type 0 where
-    pub holds : Holds first all v.known
+    pub holds : StaysTrue first all v.known
     pub some_number : (v ≡ spent) ⊎ (0 < length v.known.numbers)
     pub ticketed : tickets v.stage ≤ length v.known.numbers
     pub distinct : Distinct v.known.numbers
     pub below : (n : ℕ) → In n v.known.numbers → n < 4
-    pub told : Told first all v.known.numbers v.told
+    pub told : JoinedStayTrue first all v.known.numbers v.told
     pub staged : AtStage all drawn v.known.seen v.stage
 
   -- two seats share no number and no ticket
@@ -80,15 +80,15 @@ module _ {D A B : Type 0} where
   Longest all views = (i : ℕ) × (v : View D A B) × (get_elem? views i ≡ some v) × (0 < length v.known.numbers) × (v.known.seen ≡ all)
 
 module _ {D A B Base : Type 0} (stands : D → Base → List (Option (A × B)) → Type 0) where
-  abbrev pub Follows : D → List (Turn A B) → D → Type 0
-  Follows first all desk = (base : Base) → stands first base [] → stands desk base (plain all)
+  abbrev pub StandsAfter : D → List (Turn A B) → D → Type 0
+  StandsAfter first all desk = (base : Base) → stands first base [] → stands desk base (plain all)
 
   -- the slot has the desk, which stands for all turns; or a seat serves, and it is out
   abbrev pub InSlot : D → List (Turn A B) → List (View D A B) → maybe.Option (Option D) → Type 0
-  InSlot first all views (some y) = (desk : D) × (y ≡ Some desk) × Follows first all desk
+  InSlot first all views (some y) = (desk : D) × (y ≡ Some desk) × StandsAfter first all desk
   InSlot first all views none = (i : ℕ) × (v : View D A B) × (get_elem? views i ≡ some v) × (v.stage ≡ Serves (length all))
 
-  pub record Kept (first : D) (s : State (Option D) (View D A B)) : Type 0 where
+  pub record TurnsInOrder (first : D) (s : State (Option D) (View D A B)) : Type 0 where
     pub all : List (Turn A B)
     pub drawn : ℕ
     pub slot : maybe.Option (Option D)

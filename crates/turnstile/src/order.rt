@@ -11,10 +11,10 @@ use std::snapshot::Snapshot;
 pub struct Order;
 
 impl<D: Desk> TableRule<Option<D>, View<D, D::Ask, D::Answer>, Snapshot<D>> for Order {
-    ghost use Rattle.turnstile.specs.Order.{Kept, idle};
+    ghost use Rattle.turnstile.specs.Order.{TurnsInOrder, idle};
     ghost use Rattle.turnstile.specs.Knowing.{fresh};
 
-    ghost holds = { λ key. Kept D.stands key.value };
+    ghost holds = { λ key. TurnsInOrder D.stands key.value };
 
     ghost first = { λ key. idle (fresh key.value) };
 }

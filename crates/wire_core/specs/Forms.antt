@@ -26,7 +26,7 @@ pub record Writing : Type 0 where
   pub faults : ℕ
 
 -- the first octets that a sink was given, as many as there is room for
-pub record Kept : Type 0 where
+pub record FirstOctets : Type 0 where
   pub octets : List ℕ
   pub room : ℕ
 

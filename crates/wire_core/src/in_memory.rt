@@ -151,9 +151,9 @@ pub struct SteadySink {
 
 impl Model for SteadySink {
     ghost use Rattle.std.specs.Prelude.{◌≤◌, length, vec_capacity};
-    ghost use Rattle.wire_core.specs.Forms.{Kept};
+    ghost use Rattle.wire_core.specs.Forms.{FirstOctets};
 
-    ghost Value = { Kept };
+    ghost Value = { FirstOctets };
 
     ghost view = { λ s. record { octets = s.octets.items; room = s.room } };
 

@@ -1,5 +1,5 @@
 use Rattle.std.proofs.Common.{◌↔◌, Bool, true, false, ℕ, List, Some, ap, ◌∙◌, ◌≡◌}
-use Rattle.disconnect_map.specs.Verdicts.{Answers, code_verdict, is_answer}
+use Rattle.disconnect_map.specs.Verdicts.{Answers, code_verdict, is_authentic_answer}
 use Rattle.disconnect_map.proofs.VerdictLemmas.{IsCodeOf, acknowledges, refuses, tells, found_packet}
 use Rattle.disconnect_map.proofs.verdicts.verdict.Goals as goal
 
@@ -9,7 +9,7 @@ told_of : (c : goal.After-then_some) (told : Bool) (number : ℕ) → IsCodeOf t
 told_of c told number means =
     tells c.args.client.now.secret c.args.request.now c.args.octets.now c.in_ok-packet.packet c.is_answer.result c.in_ok-ended.ended told number c.then_some.result
     (found_packet c.args.octets.now c.parse.result c.in_ok-packet.packet c.in_ok-packet.ensures.value c.parse.ensures.found) means
-    (c.is_answer.ensures ∙ ap (λ (secret : List ℕ). is_answer secret c.args.request.now c.in_ok-packet.packet) c.as_slice.ensures)
+    (c.is_answer.ensures ∙ ap (λ (secret : List ℕ). is_authentic_answer secret c.args.request.now c.in_ok-packet.packet) c.as_slice.ensures)
     (c.in_ok-ended.ensures ∙ ap code_verdict c.code.ensures) c.then_some.ensures
 
 pub returns-clause-ended : goal.returns-clause-ended

@@ -16,7 +16,7 @@ returns-in_err-room-clause-turn g c = λ base turns s.
     let told = subst (λ k. Adds (g.C.Clock.readings c.args.self.now.clock) (g.C.Clock.readings k) (c.now.result ∷ [])) (sym same.clock) c.now.ensures in
     subst (λ turn. StandsBy g.C.Clock.readings c.make_room.new.self base (turns ++ turn ∷ [])) (sym (blank-of c.args.ask c.from_residual.result c.from_residual.ensures.0))
     (stands-blank g.C.Clock.readings c.past_goes_on.ensures c.args.self.now c.make_room.new.self base turns c.now.result s told same.core same.until same.moment
-    same.outbox same.closed same.left same.entries same.sender)
+    same.send_queue same.closed same.left same.entries same.sender)
 
 pub returns-in_err-all-clause-turn : goal.returns-in_err-all-clause-turn
 returns-in_err-all-clause-turn g c = λ base turns s.
@@ -25,7 +25,7 @@ returns-in_err-all-clause-turn g c = λ base turns s.
     let told = subst (λ k. Adds (g.C.Clock.readings c.args.self.now.clock) (g.C.Clock.readings k) (c.now.result ∷ [])) (sym same.clock) c.now.ensures in
     subst (λ turn. StandsBy g.C.Clock.readings new base (turns ++ turn ∷ [])) (sym (blank-of c.args.ask c.from_residual-in_err-all.result c.from_residual-in_err-all.ensures.0))
     (stands-blank g.C.Clock.readings c.past_goes_on.ensures c.args.self.now new base turns c.now.result s told (c.in_err-all.ensures.err ∙ same.core) same.until same.moment
-    same.outbox same.closed same.left same.entries same.sender)
+    same.send_queue same.closed same.left same.entries same.sender)
 
 pub returns-clause-turn : goal.returns-clause-turn
 returns-clause-turn g c = λ base turns s.
@@ -35,7 +35,7 @@ returns-clause-turn g c = λ base turns s.
     let stood = subst (λ (k : Ledger). StandsFor k H) (sym same.core) s.core in
     let all_is = c.into_vec.ensures ∙ c.in_ok-all.ensures.answers H stood in
     let all_by_old = all_is ∙ ap (λ (k : Ledger). outputs_after k.config H e) same.core in
-    let room = subst (HasRoom (length c.make_room.new.self.outbox.items) (vec_capacity c.make_room.new.self.outbox) (vec_capacity c.in_ok-room.room)) (sym all_by_old) (c.in_ok-room.ensures.room H s.core e refl) in
+    let room = subst (HasRoom (length c.make_room.new.self.send_queue.items) (vec_capacity c.make_room.new.self.send_queue) (vec_capacity c.in_ok-room.room)) (sym all_by_old) (c.in_ok-room.ensures.room H s.core e refl) in
     let quiet = calm c.make_room.new.self.core.config H c.max-moment.result c.args.ask c.begins-begun.result c.into_vec.result.items (c.begins-begun.ensures.rule H stood) all_is in
     let enters = c.enter-heard.ensures c.in_ok-room.ensures.none room quiet in
     let idle_is = c.is_idle-idle.ensures ∙ ap (λ os. leaves_all c.args.ask c.outbox-outbox.result && length os == 0) (c.as_slice.ensures ∙ sym c.into_vec.ensures) in

@@ -3,7 +3,7 @@ use Rattle.std.specs.List.{AllByRecursion}
 use Rattle.pending_table.specs.declared.key.Key.{Key}
 use Rattle.std.specs.HashMap.{get, hash_map_len}
 use Rattle.pending_table.specs.declared.stores.Number.{Number}
-use Rattle.pending_table.specs.declared.stores.Place.TheVariants.{Waiting}
+use Rattle.pending_table.specs.declared.stores.RowPlace.TheVariants.{Waiting}
 use Rattle.pending_table.specs.Table.{same_key, is_waiting}
 use Rattle.pending_table.specs.Merged.{Held, rows, Pairs}
 use Rattle.pending_table.specs.Stores.{waits, ends_before, same_number, number_of}

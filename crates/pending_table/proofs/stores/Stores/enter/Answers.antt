@@ -3,7 +3,7 @@ use Rattle.std.specs.HashMap.{get, hash_map_len}
 use Rattle.std.specs.List.{AllByRecursion}
 use Rattle.pending_table.specs.declared.stores.Number.{Number}
 use Rattle.pending_table.specs.declared.key.Key.{Key}
-use Rattle.pending_table.specs.declared.stores.Place.TheVariants.{Waiting}
+use Rattle.pending_table.specs.declared.stores.RowPlace.TheVariants.{Waiting}
 use Rattle.pending_table.specs.Table.{Row, same_key}
 use Rattle.pending_table.specs.Stores.{same_number, number_of, waits}
 use Rattle.pending_table.proofs.Entering.{kept-entered, waits-entered}

@@ -5,8 +5,8 @@ use Rattle.std.specs.List.{AllByRecursion}
 use Rattle.std.specs.HashMap.{get, hash_map_len}
 use Rattle.pending_table.specs.declared.key.Key.{Key}
 use Rattle.pending_table.specs.declared.stores.Number.{Number}
-use Rattle.pending_table.specs.declared.stores.Place.{Place}
-use Rattle.pending_table.specs.declared.stores.Place.TheVariants.{Waiting, Settled}
+use Rattle.pending_table.specs.declared.stores.RowPlace.{RowPlace}
+use Rattle.pending_table.specs.declared.stores.RowPlace.TheVariants.{Waiting, Settled}
 use Rattle.pending_table.specs.Table.{Row, same_key, ends}
 use Rattle.pending_table.specs.Merged.{Held, rows}
 use Rattle.pending_table.specs.Stores.{waits, waiting_at, same_number, number_of, ends_before}
@@ -15,7 +15,7 @@ use Rattle.pending_table.proofs.Settling.{Split, split, awaited, asked_for, key_
 use Rattle.pending_table.proofs.stores.Stores.settle.Goals as goal
 
 -- an index that has the key finds it
-gone : (o : Option (MutBor Place)) (place : Place) → ((x : MutBor Place) → o ≡ Some x → ⊥) → option_copied_mut o ≡ Some place → ⊥
+gone : (o : Option (MutBor RowPlace)) (place : RowPlace) → ((x : MutBor RowPlace) → o ≡ Some x → ⊥) → option_copied_mut o ≡ Some place → ⊥
 gone None place none found = absurd cc
 gone (Some x) place none found = none x refl
 
