@@ -28,7 +28,8 @@ pub fn answer(
     requires session { length kept.now.session ≤ 244 }
     requires whole { kept.now.proxy ≡ attributes_text (attributes_in kept.now.proxy) }
     requires proxy { length kept.now.proxy ≤ 2048 }
-    ensures { IfOk result (λ o. o ≡ outcome Nasreq client.now kept.now (message_view message.now) numbers) }
+    ensures { IfOk result
+        (λ o. o ≡ outcome Nasreq client.now kept.now (message_view message.now) numbers) }
 {
     translation::answer(alloc, Service::Nasreq, client, kept, message, numbers)
 }

@@ -87,7 +87,8 @@ fn read(client: &Client, address: u32, packet: &Packet<'_>) -> Reading
 
 /// What speaks against the Message-Authenticator, or against there being none.
 fn seal_reason(client: &Client, packet: &Packet<'_>, eap: bool) -> Option<Reason>
-    ensures { result ≡ specs.seal_reason_of (client.now.require_seal || eap) (seal_of client.now.secret packet.now) }
+    ensures { result ≡ specs.seal_reason_of (client.now.require_seal || eap)
+        (seal_of client.now.secret packet.now) }
 {
     match packet.check_seal(client.secret.as_slice()) {
         Seal::Absent if client.require_seal || eap => Some(Reason::NoSeal),
@@ -113,7 +114,8 @@ fn credentials_reason(credentials: &Credentials) -> Option<Reason>
 #[tactic(auto, using(translation::proofs::FaultLemmas::reason_of_faults_in))]
 fn reason(client: &Client, packet: &Packet<'_>, reading: &Reading) -> Option<Reason>
     requires { reading.now.credentials ≡ found.credentials_in packet.now.attributes }
-    ensures { (source : ℕ) → reading.now.faults ≡ faults_in client.now source Access packet.now.attributes
+    ensures { (source : ℕ)
+        → reading.now.faults ≡ faults_in client.now source Access packet.now.attributes
         → result ≡ specs.access_reason client.now source packet.now }
 {
     if let Some(reason) = seal_reason(client, packet, reading.credentials.eap) {

@@ -30,8 +30,10 @@ pub(crate) fn put_password(
     value: &[u8],
 ) -> Result<(), NoMemory>
     requires hidden { IsTrue (is_hidden_length (length value.now)) }
-    requires room { length (avps_text (writer.old.avps.list ++ specs.password_avp secret.now authenticator.now value.now ∷ [])) ≤ 65516 }
-    ensures { OnOk result (writer.new ≡ with_avps writer.old (specs.password_avp secret.now authenticator.now value.now ∷ [])) }
+    requires room { length (avps_text (writer.old.avps.list
+        ++ specs.password_avp secret.now authenticator.now value.now ∷ [])) ≤ 65516 }
+    ensures { OnOk result (writer.new
+        ≡ with_avps writer.old (specs.password_avp secret.now authenticator.now value.now ∷ [])) }
 {
     let mut octets = [0; MOST_HIDDEN];
     let password = &mut octets[..value.len()];
@@ -58,7 +60,8 @@ fn begin_chap(writer: &mut MessageWriter) -> Result<Group, NoMemory>
 /// Puts a CHAP-Password: its first octet is the identifier, and the others are the response.
 fn put_chap(writer: &mut MessageWriter, value: &[u8]) -> Result<(), NoMemory>
     requires some { 1 ≤ length value.now }
-    requires room { length (avps_text (writer.old.avps.list ++ specs.chap_avp value.now ∷ [])) ≤ 65516 }
+    requires room { length (avps_text (writer.old.avps.list ++ specs.chap_avp value.now ∷ []))
+        ≤ 65516 }
     ensures { OnOk result (writer.new ≡ with_avps writer.old (specs.chap_avp value.now ∷ [])) }
 {
     let group = begin_chap(writer)?;
@@ -91,8 +94,10 @@ pub(crate) fn put_chap_password(
 ) -> Result<(), NoMemory>
     requires authenticator { authenticator.now ≡ packet.now.authenticator }
     requires some { 1 ≤ length value.now }
-    requires room { length (avps_text (writer.old.avps.list ++ specs.chap_avp value.now ∷ specs.challenge_avps packet.now)) ≤ 65516 }
-    ensures { OnOk result (writer.new ≡ with_avps writer.old (specs.chap_avp value.now ∷ specs.challenge_avps packet.now)) }
+    requires room { length (avps_text (writer.old.avps.list
+        ++ specs.chap_avp value.now ∷ specs.challenge_avps packet.now)) ≤ 65516 }
+    ensures { OnOk result (writer.new
+        ≡ with_avps writer.old (specs.chap_avp value.now ∷ specs.challenge_avps packet.now)) }
 {
     put_chap(writer, value)?;
     if has_challenge(packet) {

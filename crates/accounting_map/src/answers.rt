@@ -35,7 +35,8 @@ pub fn termination(
     requires realm { length kept.now.realm ≤ 255 }
     requires session { length kept.now.session ≤ 1024 }
     requires host { IfSome (option_copied host) (λ host. length host ≤ 255) }
-    ensures { IfOk result (λ o. o ≡ termination_text client.now kept.now application cause (option_copied host.entry) numbers) }
+    ensures { IfOk result (λ o. o ≡ termination_text client.now kept.now application cause
+        (option_copied host.entry) numbers) }
 {
     translation::termination(alloc, client, kept, application, cause, host, numbers)
 }
@@ -49,7 +50,8 @@ fn response(
 ) -> Result<Option<Octets>, NoMemory>
     requires whole { kept.now.proxy ≡ attributes_text (attributes_in kept.now.proxy) }
     requires proxy { length kept.now.proxy ≤ 2048 }
-    ensures { IfOk result (λ o. o ≡ specs.reply_if (acceptance.is_accepted kept.now (message_view message.now)) client.now kept.now) }
+    ensures { IfOk result (λ o. o ≡ specs.reply_if
+        (acceptance.is_accepted kept.now (message_view message.now)) client.now kept.now) }
 {
     if !is_accepted(alloc, kept, message)? {
         return Ok(None);
@@ -94,7 +96,8 @@ pub fn answer(
     requires session { length kept.now.session ≤ 1024 }
     requires whole { kept.now.proxy ≡ attributes_text (attributes_in kept.now.proxy) }
     requires proxy { length kept.now.proxy ≤ 2048 }
-    ensures { IfOk result (λ o. o ≡ specs.outcome client.now kept.now (message_view message.now) numbers) }
+    ensures { IfOk result
+        (λ o. o ≡ specs.outcome client.now kept.now (message_view message.now) numbers) }
 {
     let reply = response(alloc, client, kept, message)?;
     let follow = follow(alloc, client, kept, numbers)?;

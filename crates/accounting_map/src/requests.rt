@@ -55,7 +55,8 @@ struct Passed {
 /// Puts what a record says of itself.
 fn put_record(writer: &mut MessageWriter, packet: &Packet<'_>) -> Result<(), NoMemory>
     requires few { list_length writer.old ≤ 1500 }
-    ensures { OnOk result (Puts writer.old writer.new (specs.record_avps packet.now.attributes) 60) }
+    ensures { OnOk result
+        (Puts writer.old writer.new (specs.record_avps packet.now.attributes) 60) }
 {
     let status = status(packet);
     writer.put_number(ACCOUNTING_RECORD_TYPE, record_type(status))?;
@@ -79,7 +80,8 @@ fn put_head(
     requires session { length (route_view route.now).session ≤ 1024 }
     requires realm { length (route_view route.now).realm ≤ 255 }
     requires client { ClientInLimits client.now }
-    ensures { OnOk result (Puts writer.old writer.new (specs.head client.now packet.now (route_view route.now)) 1560) }
+    ensures { OnOk result (Puts writer.old writer.new
+        (specs.head client.now packet.now (route_view route.now)) 1560) }
 {
     put_names(writer, client, route.session, route.realm)?;
     put_record(writer, packet)
@@ -87,7 +89,8 @@ fn put_head(
 
 /// Puts a number of four octets, which has room.
 fn put_four(writer: &mut MessageWriter, avp: u32, number: u32) -> Result<(), NoMemory>
-    requires { length (avps_text (writer.old.avps.list ++ plain_avp avp (text32 number) ∷ [])) ≤ 65516 }
+    requires { length (avps_text (writer.old.avps.list ++ plain_avp avp (text32 number) ∷ []))
+        ≤ 65516 }
     ensures { OnOk result (writer.new ≡ with_avps writer.old (plain_avp avp (text32 number) ∷ [])) }
 {
     writer.put_with_room(avp, None, true, &number.to_be_bytes())
@@ -95,7 +98,8 @@ fn put_four(writer: &mut MessageWriter, avp: u32, number: u32) -> Result<(), NoM
 
 /// Puts a number of eight octets, which has room.
 fn put_eight(writer: &mut MessageWriter, avp: u32, number: u64) -> Result<(), NoMemory>
-    requires { length (avps_text (writer.old.avps.list ++ plain_avp avp (text64 number) ∷ [])) ≤ 65516 }
+    requires { length (avps_text (writer.old.avps.list ++ plain_avp avp (text64 number) ∷ []))
+        ≤ 65516 }
     ensures { OnOk result (writer.new ≡ with_avps writer.old (plain_avp avp (text64 number) ∷ [])) }
 {
     writer.put_with_room(avp, None, true, &number.to_be_bytes())
@@ -110,8 +114,10 @@ fn put_volume(
     gigawords: u8,
     before: &mut bool,
 ) -> Result<(), NoMemory>
-    requires { length (avps_text (writer.old.avps.list ++ passing.volume_after before.old avp (specs.volume octets gigawords packet.now.attributes))) ≤ 65516 }
-    ensures put { OnOk result (writer.new ≡ with_avps writer.old (passing.volume_after before.old avp (specs.volume octets gigawords packet.now.attributes))) }
+    requires { length (avps_text (writer.old.avps.list ++ passing.volume_after before.old avp
+        (specs.volume octets gigawords packet.now.attributes))) ≤ 65516 }
+    ensures put { OnOk result (writer.new ≡ with_avps writer.old (passing.volume_after before.old
+        avp (specs.volume octets gigawords packet.now.attributes))) }
     ensures noted { OnOk result (before.new ≡ true) }
 {
     if *before {
@@ -123,8 +129,10 @@ fn put_volume(
 
 /// Puts a count of packets.
 fn put_packets(writer: &mut MessageWriter, avp: u32, value: &[u8]) -> Result<(), NoMemory>
-    requires { length (avps_text (writer.old.avps.list ++ specs.packets_avp avp value.now ∷ [])) ≤ 65516 }
-    ensures { OnOk result (writer.new ≡ with_avps writer.old (specs.packets_avp avp value.now ∷ [])) }
+    requires { length (avps_text (writer.old.avps.list ++ specs.packets_avp avp value.now ∷ []))
+        ≤ 65516 }
+    ensures { OnOk result
+        (writer.new ≡ with_avps writer.old (specs.packets_avp avp value.now ∷ [])) }
 {
     put_eight(writer, avp, number_in(value).into())
 }
@@ -150,9 +158,12 @@ fn put_piece(
     passed: &mut Passed,
 ) -> Result<(), NoMemory>
     requires value { IsTrue (is_good Accounting (attribute_view attribute.now)) }
-    requires room { length (avps_text (writer.old.avps.list ++ passing.piece_after packet.now.attributes passed.old (attribute_view attribute.now))) ≤ 65516 }
-    ensures put { OnOk result (writer.new ≡ with_avps writer.old (passing.piece_after packet.now.attributes passed.old (attribute_view attribute.now))) }
-    ensures noted { OnOk result (passed.new ≡ passing.noted passed.old (attribute_view attribute.now)) }
+    requires room { length (avps_text (writer.old.avps.list ++ passing.piece_after
+        packet.now.attributes passed.old (attribute_view attribute.now))) ≤ 65516 }
+    ensures put { OnOk result (writer.new ≡ with_avps writer.old
+        (passing.piece_after packet.now.attributes passed.old (attribute_view attribute.now))) }
+    ensures noted { OnOk result
+        (passed.new ≡ passing.noted passed.old (attribute_view attribute.now)) }
 {
     match attribute.code {
         ACCT_INPUT_OCTETS | ACCT_INPUT_GIGAWORDS => put_volume(
@@ -213,9 +224,11 @@ pub fn request(
     requires session { length (route_view route.now).session ≤ 1024 }
     requires realm { length (route_view route.now).realm ≤ 255 }
     requires client { ClientInLimits client.now }
-    ensures text { IfOk result (λ o. o ≡ specs.accounting_image client.now packet.now (route_view route.now) numbers) }
+    ensures text { IfOk result
+        (λ o. o ≡ specs.accounting_image client.now packet.now (route_view route.now) numbers) }
     // It is a message, so it can be sent again.
-    ensures message { IfOk result (λ o. IsMessage o (specs.request_header numbers) (avps_text (specs.request_avps client.now packet.now (route_view route.now)))) }
+    ensures message { IfOk result (λ o. IsMessage o (specs.request_header numbers)
+        (avps_text (specs.request_avps client.now packet.now (route_view route.now)))) }
 {
     let header = Header {
         flags: REQUEST | PROXIABLE,

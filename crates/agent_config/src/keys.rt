@@ -51,7 +51,8 @@ pub(crate) fn name(
     client: u32,
     key: &str,
 ) -> Result<Octets, ConfigFault>
-    ensures ok { IfOk result (λ o. (needed client key.now values.name_of (table_view table.now) ≡ None)
+    ensures ok { IfOk result
+        (λ o. (needed client key.now values.name_of (table_view table.now) ≡ None)
         × (at key.now values.name_of (table_view table.now) ≡ Some o)) }
     ensures err { IfErr result (λ e. e ≢ fault.NoMemory
         → needed client key.now values.name_of (table_view table.now) ≡ Some e) }
@@ -72,7 +73,8 @@ pub(crate) fn name_or_none(
     client: u32,
     key: &str,
 ) -> Result<Option<Octets>, ConfigFault>
-    ensures ok { IfOk result (λ o. (allowed client key.now values.name_of (table_view table.now) ≡ None)
+    ensures ok { IfOk result
+        (λ o. (allowed client key.now values.name_of (table_view table.now) ≡ None)
         × (at key.now values.name_of (table_view table.now) ≡ o)) }
     ensures err { IfErr result (λ e. e ≢ fault.NoMemory
         → allowed client key.now values.name_of (table_view table.now) ≡ Some e) }
@@ -93,7 +95,8 @@ pub(crate) fn secret(
     client: u32,
     key: &str,
 ) -> Result<Octets, ConfigFault>
-    ensures ok { IfOk result (λ o. (needed client key.now values.secret_of (table_view table.now) ≡ None)
+    ensures ok { IfOk result
+        (λ o. (needed client key.now values.secret_of (table_view table.now) ≡ None)
         × (at key.now values.secret_of (table_view table.now) ≡ Some o)) }
     ensures err { IfErr result (λ e. e ≢ fault.NoMemory
         → needed client key.now values.secret_of (table_view table.now) ≡ Some e) }
@@ -114,7 +117,8 @@ pub(crate) fn address(
     client: u32,
     key: &str,
 ) -> Result<u32, ConfigFault>
-    ensures ok { IfOk result (λ a. (needed client key.now values.address_of (table_view table.now) ≡ None)
+    ensures ok { IfOk result
+        (λ a. (needed client key.now values.address_of (table_view table.now) ≡ None)
         × (at key.now values.address_of (table_view table.now) ≡ Some a)) }
     ensures err { IfErr result (λ e. e ≢ fault.NoMemory
         → needed client key.now values.address_of (table_view table.now) ≡ Some e) }
@@ -136,7 +140,8 @@ pub(crate) fn number(
     low: u64,
     high: u64,
 ) -> Result<Option<u64>, ConfigFault>
-    ensures ok { IfOk result (λ n. (allowed 0 key.now (values.number_of low high) (table_view table.now) ≡ None)
+    ensures ok { IfOk result
+        (λ n. (allowed 0 key.now (values.number_of low high) (table_view table.now) ≡ None)
         × (at key.now (values.number_of low high) (table_view table.now) ≡ n)) }
     ensures small { IfOk result (λ n. IfSome n (λ number. number ≤ high)) }
     ensures err { IfErr result (λ e. e ≢ fault.NoMemory
@@ -179,7 +184,8 @@ pub(crate) fn keys_choice(
     client: u32,
     key: &str,
 ) -> Result<Option<bool>, ConfigFault>
-    ensures ok { IfOk result (λ b. (allowed client key.now values.keys_choice_of (table_view table.now) ≡ None)
+    ensures ok { IfOk result
+        (λ b. (allowed client key.now values.keys_choice_of (table_view table.now) ≡ None)
         × (at key.now values.keys_choice_of (table_view table.now) ≡ b)) }
     ensures err { IfErr result (λ e. e ≢ fault.NoMemory
         → allowed client key.now values.keys_choice_of (table_view table.now) ≡ Some e) }
@@ -200,7 +206,8 @@ pub(crate) fn addresses(
     client: u32,
     key: &str,
 ) -> Result<AddressList, ConfigFault>
-    ensures ok { IfOk result (λ a. (allowed client key.now values.addresses_of (table_view table.now) ≡ None)
+    ensures ok { IfOk result
+        (λ a. (allowed client key.now values.addresses_of (table_view table.now) ≡ None)
         × (unwrap_or (at key.now values.addresses_of (table_view table.now)) [] ≡ a)) }
     ensures err { IfErr result (λ e. e ≢ fault.NoMemory
         → allowed client key.now values.addresses_of (table_view table.now) ≡ Some e) }
@@ -216,8 +223,10 @@ pub(crate) fn addresses(
 
 /// The clients, which have to be there: at most 1,024 tables.
 pub(crate) fn client_tables(alloc: Global, table: &Table) -> Result<&[Value], ConfigFault>
-    ensures ok { IfOk result (λ tables. (needed 0 (codes "clients") values.tables_of (table_view table.now) ≡ None)
-        × (at (codes "clients") values.tables_of (table_view table.now) ≡ values.each as_table (items_view tables.now))) }
+    ensures ok { IfOk result
+        (λ tables. (needed 0 (codes "clients") values.tables_of (table_view table.now) ≡ None)
+        × (at (codes "clients") values.tables_of (table_view table.now)
+        ≡ values.each as_table (items_view tables.now))) }
     ensures tables { IfOk result (λ tables. IsSome (values.each as_table (items_view tables.now))) }
     ensures few { IfOk result (λ tables. length tables.now ≤ 1024) }
     ensures err { IfErr result (λ e. e ≢ fault.NoMemory
@@ -246,7 +255,8 @@ fn is_known(known: &[&str], key: &str) -> bool
 
 /// The first key that isn't known, in the order of octets.
 fn unknown_key<'a>(table: &'a Table, known: &[&str]) -> Option<&'a str>
-    ensures { option_copied result ≡ first_unknown (map (λ k. k.now) known.now) (table_view table.now) }
+    ensures { option_copied result
+        ≡ first_unknown (map (λ k. k.now) known.now) (table_view table.now) }
 {
     for key in table.keys() {
         if !is_known(known, key.as_str()) {
@@ -263,7 +273,8 @@ pub(crate) fn no_others(
     client: u32,
     known: &[&str],
 ) -> Result<(), ConfigFault>
-    ensures ok { IfOk result (λ _. unknown client (map (λ k. k.now) known.now) (table_view table.now) ≡ None) }
+    ensures ok { IfOk result
+        (λ _. unknown client (map (λ k. k.now) known.now) (table_view table.now) ≡ None) }
     ensures err { IfErr result (λ e. e ≢ fault.NoMemory
         → unknown client (map (λ k. k.now) known.now) (table_view table.now) ≡ Some e) }
 {

@@ -74,7 +74,8 @@ fn read_identity(alloc: Global, table: &Table, client: u32) -> Result<Identity, 
         × (i.name ≡ (client_of (table_view table.now)).name)
         × (i.address ≡ (client_of (table_view table.now)).address)
         × (i.secret ≡ (client_of (table_view table.now)).secret)) }
-    ensures err { IfErr result (λ e. e ≢ fault.NoMemory → first (identity_faults client (table_view table.now)) ≡ Some e) }
+    ensures err { IfErr result
+        (λ e. e ≢ fault.NoMemory → first (identity_faults client (table_view table.now)) ≡ Some e) }
 {
     Ok(Identity {
         name: name(alloc, table, client, "name")?,
@@ -89,7 +90,8 @@ fn read_origin(alloc: Global, table: &Table, client: u32) -> Result<Origin, Conf
     ensures ok { IfOk result (λ o. (first (origin_faults client (table_view table.now)) ≡ None)
         × (o.host ≡ (client_of (table_view table.now)).origin_host)
         × (o.realm ≡ (client_of (table_view table.now)).origin_realm)) }
-    ensures err { IfErr result (λ e. e ≢ fault.NoMemory → first (origin_faults client (table_view table.now)) ≡ Some e) }
+    ensures err { IfErr result
+        (λ e. e ≢ fault.NoMemory → first (origin_faults client (table_view table.now)) ≡ Some e) }
 {
     Ok(Origin {
         host: name(alloc, table, client, "origin_host")?,
@@ -104,7 +106,8 @@ fn read_rules(alloc: Global, table: &Table, client: u32) -> Result<Rules, Config
         × (r.require_seal ≡ (client_of (table_view table.now)).require_seal)
         × (r.omit_keys ≡ (client_of (table_view table.now)).omit_keys)
         × (r.nas ≡ (client_of (table_view table.now)).nas)) }
-    ensures err { IfErr result (λ e. e ≢ fault.NoMemory → first (rule_faults client (table_view table.now)) ≡ Some e) }
+    ensures err { IfErr result
+        (λ e. e ≢ fault.NoMemory → first (rule_faults client (table_view table.now)) ≡ Some e) }
 {
     Ok(Rules {
         require_seal: flag(alloc, table, client, "require_seal")?.unwrap_or(false),
@@ -118,7 +121,8 @@ fn read_rules(alloc: Global, table: &Table, client: u32) -> Result<Rules, Config
 fn read_client(alloc: Global, table: &Table, client: u32) -> Result<Client, ConfigFault>
     ensures ok { IfOk result (λ c. (first (client_faults client (table_view table.now)) ≡ None)
         × (c ≡ client_of (table_view table.now))) }
-    ensures err { IfErr result (λ e. e ≢ fault.NoMemory → first (client_faults client (table_view table.now)) ≡ Some e) }
+    ensures err { IfErr result
+        (λ e. e ≢ fault.NoMemory → first (client_faults client (table_view table.now)) ≡ Some e) }
 {
     let identity = read_identity(alloc, table, client)?;
     let origin = read_origin(alloc, table, client)?;
@@ -144,7 +148,8 @@ fn small_number(
     low: u32,
     high: u32,
 ) -> Result<Option<u32>, ConfigFault>
-    ensures ok { IfOk result (λ n. (allowed 0 key.now (number_of low high) (table_view table.now) ≡ None)
+    ensures ok { IfOk result
+        (λ n. (allowed 0 key.now (number_of low high) (table_view table.now) ≡ None)
         × (at key.now (number_of low high) (table_view table.now) ≡ n)) }
     ensures err { IfErr result (λ e. e ≢ fault.NoMemory
         → allowed 0 key.now (number_of low high) (table_view table.now) ≡ Some e) }
@@ -183,7 +188,8 @@ fn read_names(alloc: Global, table: &Table) -> Result<Names, ConfigFault>
         × (n.realm ≡ (top_of (table_view table.now)).realm)
         × (n.home_realm ≡ (top_of (table_view table.now)).home_realm)
         × (n.address ≡ (top_of (table_view table.now)).address)) }
-    ensures err { IfErr result (λ e. e ≢ fault.NoMemory → first (name_faults (table_view table.now)) ≡ Some e) }
+    ensures err { IfErr result
+        (λ e. e ≢ fault.NoMemory → first (name_faults (table_view table.now)) ≡ Some e) }
 {
     let host = name(alloc, table, 0, "host")?;
     let realm = name(alloc, table, 0, "realm")?;
@@ -210,7 +216,8 @@ fn read_figures(alloc: Global, table: &Table) -> Result<Figures, ConfigFault>
         × (f.capacity ≡ (top_of (table_view table.now)).capacity)
         × (f.backlog ≡ (top_of (table_view table.now)).backlog)
         × (f.watchdog ≡ (top_of (table_view table.now)).watchdog)) }
-    ensures err { IfErr result (λ e. e ≢ fault.NoMemory → first (number_faults (table_view table.now)) ≡ Some e) }
+    ensures err { IfErr result
+        (λ e. e ≢ fault.NoMemory → first (number_faults (table_view table.now)) ≡ Some e) }
 {
     let boot = small_number(alloc, table, "boot", 0, u32::MAX)?;
     let retention = number(alloc, table, "retention_ms", 1_000, 300_000)?.unwrap_or(30_000);
@@ -233,10 +240,12 @@ fn read_figures(alloc: Global, table: &Table) -> Result<Figures, ConfigFault>
 fn read_top(alloc: Global, table: &Table) -> Result<(Config, &[Value]), ConfigFault>
     ensures ok { IfOk result (λ read. (first (top_faults (table_view table.now)) ≡ None)
         × (read.0 ≡ top_of (table_view table.now))) }
-    ensures tables { IfOk result (λ read. at (codes "clients") tables_of (table_view table.now) ≡ each as_table (items_view read.1.now)) }
+    ensures tables { IfOk result (λ read. at (codes "clients") tables_of (table_view table.now)
+        ≡ each as_table (items_view read.1.now)) }
     ensures some { IfOk result (λ read. IsSome (each as_table (items_view read.1.now))) }
     ensures few { IfOk result (λ read. length read.1.now ≤ 1024) }
-    ensures err { IfErr result (λ e. e ≢ fault.NoMemory → first (top_faults (table_view table.now)) ≡ Some e) }
+    ensures err { IfErr result
+        (λ e. e ≢ fault.NoMemory → first (top_faults (table_view table.now)) ≡ Some e) }
 {
     let names = read_names(alloc, table)?;
     let figures = read_figures(alloc, table)?;
@@ -262,7 +271,8 @@ fn read_top(alloc: Global, table: &Table) -> Result<(Config, &[Value]), ConfigFa
 fn read_clients(alloc: Global, tables: &[Value]) -> Result<Vec<Client>, ConfigFault>
     requires some { IsSome (each as_table (items_view tables.now)) }
     requires few { length tables.now ≤ 1024 }
-    ensures ok { IfOk result (λ clients. (first (clients_faults 1 (tables_in (items_view tables.now))) ≡ None)
+    ensures ok { IfOk result
+        (λ clients. (first (clients_faults 1 (tables_in (items_view tables.now))) ≡ None)
         × (clients.items ≡ map client_of (tables_in (items_view tables.now)))) }
     ensures few { IfOk result (λ clients. length clients.items ≤ 1024) }
     ensures err { IfErr result (λ e. e ≢ fault.NoMemory

@@ -88,7 +88,8 @@ fn each_address(alloc: Global, array: &[Value]) -> Result<Option<AddressList>, N
 /// The items of an array, at most so many.
 #[tactic(auto, using(crate::proofs::ValueLemmas::count_view))]
 fn items_up_to(value: &Value, limit: usize) -> Option<&[Value]>
-    ensures exact { option_map (λ items. items_view items.now) result ≡ values.items_up_to limit (view value.now) }
+    ensures exact { option_map (λ items. items_view items.now) result
+        ≡ values.items_up_to limit (view value.now) }
     ensures few { IfSome result (λ items. length items.now ≤ limit) }
 {
     let items = value.as_array()?.as_slice();
@@ -123,8 +124,10 @@ fn are_tables(array: &[Value]) -> bool
 
 /// At most 1,024 tables.
 pub(crate) fn tables_in(value: &Value) -> Option<&[Value]>
-    ensures some { IfSome result (λ tables. values.tables_of (view value.now) ≡ values.each as_table (items_view tables.now)) }
-    ensures tables { IfSome result (λ tables. IsSome (values.each as_table (items_view tables.now))) }
+    ensures some { IfSome result (λ tables. values.tables_of (view value.now)
+        ≡ values.each as_table (items_view tables.now)) }
+    ensures tables { IfSome result
+        (λ tables. IsSome (values.each as_table (items_view tables.now))) }
     ensures few { IfSome result (λ tables. length tables.now ≤ 1024) }
     ensures none { IfNone result (values.tables_of (view value.now) ≡ None) }
 {

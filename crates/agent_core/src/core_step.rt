@@ -81,7 +81,8 @@ impl Core {
         ensures answers { (H : List Event) → StandsFor self.old H → IfOk result (λ o. o
             ≡ outputs_after self.old.config H (record { moment = moment; input = input.now })) }
         ensures stands { (H : List Event) → StandsFor self.old H
-            → OnOk result (StandsFor self.new (H ++ record { moment = moment; input = input.now } ∷ [])) }
+            → OnOk result
+            (StandsFor self.new (H ++ record { moment = moment; input = input.now } ∷ [])) }
         // At most half the largest backlog is sent again, and the link says three things.
         ensures few { IfOk result (λ o. length o ≤ 32771) }
         ensures config { self.new.config ≡ self.old.config }
@@ -106,25 +107,31 @@ impl Core {
     /// Where the link to the home server stands.
     pub fn phase(&self) -> Phase
         ensures kept { result ≡ self.now.peer.link.phase }
-        ensures rule { (H : List Event) → StandsFor self.now H → result ≡ (places.link (past self.now.config H)).phase }
+        ensures rule { (H : List Event) → StandsFor self.now H
+            → result ≡ (places.link (past self.now.config H)).phase }
     {
         self.ledger().peer.phase()
     }
 
     /// Whether this input begins a link: an Up or a Ready, while the link is closed and fewer than 2^64 - 1 began.
     pub fn begins(&self, input: &Input) -> bool
-        ensures rule { (H : List Event) → StandsFor self.now H → result ≡ places.begins (past self.now.config H) input.now }
+        ensures rule { (H : List Event) → StandsFor self.now H
+            → result ≡ places.begins (past self.now.config H) input.now }
     {
         matches!(input, Input::Up | Input::Ready) && self.ledger().may_begin()
     }
 
     /// The entry of the request that this message would answer, if it came at `moment`.
     pub fn awaited(&self, moment: u64, message: &Message<'_>) -> Option<&Entry>
-        ensures rule { (H : List Event) (octets : List ℕ) → StandsFor self.now H → read_message octets ≡ Ok (message_view message.now)
+        ensures rule { (H : List Event) (octets : List ℕ) → StandsFor self.now H
+            → read_message octets ≡ Ok (message_view message.now)
             → option_copied result ≡ option_map (entry_of (past self.now.config H))
-            (place self.now.config (past self.now.config H) (record { moment = moment; input = inputs.Message octets })).matched }
-        ensures client { (H : List Event) (octets : List ℕ) → StandsFor self.now H → read_message octets ≡ Ok (message_view message.now)
-            → IfSome (place self.now.config (past self.now.config H) (record { moment = moment; input = inputs.Message octets })).matched
+            (place self.now.config (past self.now.config H)
+            (record { moment = moment; input = inputs.Message octets })).matched }
+        ensures client { (H : List Event) (octets : List ℕ) → StandsFor self.now H
+            → read_message octets ≡ Ok (message_view message.now)
+            → IfSome (place self.now.config (past self.now.config H)
+            (record { moment = moment; input = inputs.Message octets })).matched
             (λ t. slice_get self.now.config.clients t.kept.client ≡ Some t.settings) }
         ensures kept { IfSome result (λ entry. KeptFits self.now.config entry.now.kept) }
     {
@@ -138,7 +145,8 @@ impl Core {
     /// What was sent on the link since the last Drain.
     pub fn outbox(&self) -> u32
         ensures kept { result ≡ self.now.outbox }
-        ensures rule { (H : List Event) → StandsFor self.now H → result ≡ places.outbox (past self.now.config H) }
+        ensures rule { (H : List Event) → StandsFor self.now H
+            → result ≡ places.outbox (past self.now.config H) }
     {
         self.ledger().outbox
     }
@@ -147,7 +155,8 @@ impl Core {
     pub fn live(&self, moment: u64) -> u32
         ensures kept { result ≡ length (table.live self.now.table (max self.now.moment moment)) }
         ensures rule { (H : List Event) → StandsFor self.now H → result
-            ≡ length (places.live self.now.config (past self.now.config H) (max (places.now (past self.now.config H)) moment)) }
+            ≡ length (places.live self.now.config (past self.now.config H)
+            (max (places.now (past self.now.config H)) moment)) }
     {
         let ledger = self.ledger();
         ledger.table.len(ledger.moment.max(moment))
@@ -157,7 +166,8 @@ impl Core {
     pub fn waiting(&self, moment: u64) -> u32
         ensures kept { result ≡ length (table.waiting self.now.table (max self.now.moment moment)) }
         ensures rule { (H : List Event) → StandsFor self.now H → result
-            ≡ length (places.waiting self.now.config (past self.now.config H) (max (places.now (past self.now.config H)) moment)) }
+            ≡ length (places.waiting self.now.config (past self.now.config H)
+            (max (places.now (past self.now.config H)) moment)) }
     {
         let ledger = self.ledger();
         ledger.table.waiting(ledger.moment.max(moment))

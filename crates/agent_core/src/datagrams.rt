@@ -46,7 +46,8 @@ fn sending(alloc: Global, octets: Octets) -> Result<Outputs, NoMemory>
 
 /// One reply, to the place that the request came from.
 fn replying(alloc: Global, key: &Key, reply: Octets) -> Result<Outputs, NoMemory>
-    ensures { IfOk result (λ o. o ≡ Output.Reply key.now.via key.now.address key.now.port reply ∷ []) }
+    ensures { IfOk result
+        (λ o. o ≡ Output.Reply key.now.via key.now.address key.now.port reply ∷ []) }
 {
     let mut outputs = Outputs::new(alloc);
     outputs.push(Output::Reply {
@@ -116,7 +117,8 @@ impl Ledger {
         octets: &[u8],
     ) -> Result<Considered, NoMemory>
         requires { IsSteady self.now }
-        ensures { IfOk result (Considers self.now (specs.verdict self.now.config via address port octets.now)) }
+        ensures { IfOk result
+            (Considers self.now (specs.verdict self.now.config via address port octets.now)) }
     {
         let request = match verdict(&self.config, via, address, octets) {
             Err(reason) => return Ok(Considered::Says(dropped(alloc, reason)?)),
@@ -138,9 +140,11 @@ impl Ledger {
     fn take_up(&mut self, key: Key, kept: Kept, sent: Octets, fresh: bool) -> Result<(), NoMemory>
         requires steady { IsSteady self.old }
         requires unknown { table.find_key self.old.table key self.old.moment ≡ None }
-        requires room { length (table.live self.old.table self.old.moment) < self.old.table.capacity }
+        requires room { length (table.live self.old.table self.old.moment)
+            < self.old.table.capacity }
         requires admits { rooms.refusal self.old.config (machine.kept_rooms self.old) ≡ None }
-        ensures ok { OnOk result (self.new ≡ machine.with_row self.old (machine.new_row self.old key kept sent) fresh) }
+        ensures ok { OnOk result
+            (self.new ≡ machine.with_row self.old (machine.new_row self.old key kept sent) fresh) }
         ensures err { OnErr result (self.new ≡ self.old) }
     {
         let link = self.peer.link();
@@ -164,9 +168,11 @@ impl Ledger {
     ) -> Result<Outputs, NoMemory>
         requires { IsSteady self.old }
         ensures outputs { IfOk result (λ o. o
-            ≡ (machine.on_datagram self.old (specs.verdict self.old.config via address port octets.now)).outputs) }
+            ≡ (machine.on_datagram self.old
+            (specs.verdict self.old.config via address port octets.now)).outputs) }
         ensures ledger { OnOk result (self.new
-            ≡ (machine.on_datagram self.old (specs.verdict self.old.config via address port octets.now)).ledger) }
+            ≡ (machine.on_datagram self.old
+            (specs.verdict self.old.config via address port octets.now)).ledger) }
         ensures err { OnErr result (self.new ≡ self.old) }
     {
         match self.considered(alloc, via, address, port, octets)? {

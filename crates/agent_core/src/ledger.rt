@@ -85,7 +85,8 @@ impl Ledger {
     pub(crate) fn refusal(&self) -> Option<Reason>
         requires { self.now.table.capacity ≡ self.now.config.capacity }
         ensures exact { result ≡ rooms.refusal self.now.config (machine.kept_rooms self.now) }
-        ensures room { result ≡ None → length (table.live self.now.table self.now.moment) < self.now.table.capacity }
+        ensures room { result ≡ None
+            → length (table.live self.now.table self.now.moment) < self.now.table.capacity }
     {
         let waiting = self.table.waiting(self.moment) as u64;
         let outbox = self.outbox as u64;

@@ -72,7 +72,8 @@ fn opens(before: Phase, after: Phase) -> bool
 
 /// Whether this header and these AVPs are those of an answer of success to a link's Capabilities-Exchange-Request.
 fn has_grant(header: &Header, avps: &[u8]) -> bool
-    ensures { result ≡ (nat_lt header.now.flags 128 && (header.now.command == 257 && header.now.hop == 2147483648)
+    ensures { result ≡
+        (nat_lt header.now.flags 128 && (header.now.command == 257 && header.now.hop == 2147483648)
         && is_success (result_in (read_avps avps.now))) }
 {
     header.flags < REQUEST
@@ -155,7 +156,8 @@ impl Ledger {
     /// The same where the link opens, else nothing.
     fn resends(&self, alloc: Global, input: PeerInput<'_>) -> Result<Outputs, NoMemory>
         requires { IsSteady self.now }
-        ensures { IfOk result (λ o. o ≡ (if machine.may_open self.now.peer.link.phase (event_of input.entry)
+        ensures { IfOk result
+            (λ o. o ≡ (if machine.may_open self.now.peer.link.phase (event_of input.entry)
             then machine.kept_resends self.now else [])) }
     {
         if self.may_open(input) {
@@ -170,7 +172,8 @@ impl Ledger {
         requires { (if begins then 0 else self.old.outbox) + 1 ≤ 4294967295 }
         ensures { self.new ≡ record self.old {
           used = if begins then 0 else self.old.used;
-          outbox = (if begins then 0 else self.old.outbox) + machine.count_of (is_some said.now.send);
+          outbox = (if begins then 0 else self.old.outbox) + machine.count_of
+              (is_some said.now.send);
           total = (self.old.total + machine.count_of said.now.request) % 4294967296;
         } }
     {
@@ -184,7 +187,8 @@ impl Ledger {
 
     /// The waiting requests were sent over the link that opened.
     fn relinked(&mut self)
-        requires unused { All (λ r. r.1.link ≢ self.old.peer.link.number) (table.live self.old.table self.old.moment) }
+        requires unused { All (λ r. r.1.link ≢ self.old.peer.link.number)
+            (table.live self.old.table self.old.moment) }
         requires used { self.old.used + length (machine.kept_waiting self.old) ≤ 4294967295 }
         requires outbox { self.old.outbox + length (machine.kept_waiting self.old) ≤ 4294967295 }
         ensures { self.new ≡ record self.old {

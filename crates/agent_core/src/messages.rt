@@ -162,7 +162,8 @@ impl Ledger {
     #[tactic(auto, using(crate::proofs::AwaitedLemmas::passes_later))]
     pub(crate) fn awaited(&self, moment: u64, message: &Message<'_>) -> Option<&Entry>
         requires { IsSteady self.now }
-        ensures entry { option_copied result ≡ machine.awaited_by (machine.at_moment self.now moment) (message_view message.now) }
+        ensures entry { option_copied result
+            ≡ machine.awaited_by (machine.at_moment self.now moment) (message_view message.now) }
         ensures kept { IfSome result (λ entry. KeptFits self.now.config entry.now.kept) }
     {
         if !self.passes(message) {
@@ -180,8 +181,10 @@ impl Ledger {
 
     /// Gives the waiting request its reply, or silence, and counts what follows.
     fn settle(&mut self, hop: u32, reply: Option<Octets>, follows: bool)
-        requires awaited { IsSome (table.find_number self.old.table self.old.peer.link.number hop self.old.moment) }
-        requires in_order { All (λ r. table.IsBy self.old.moment r.1) (table.live self.old.table self.old.moment) }
+        requires awaited { IsSome
+            (table.find_number self.old.table self.old.peer.link.number hop self.old.moment) }
+        requires in_order { All (λ r. table.IsBy self.old.moment r.1)
+            (table.live self.old.table self.old.moment) }
         requires room { (self.old.used + 1 ≤ 4294967295) × (self.old.outbox + 1 ≤ 4294967295) }
         ensures { self.new ≡ machine.settled_at self.old hop reply follows }
     {
@@ -197,8 +200,10 @@ impl Ledger {
         requires steady { IsSteady self.old }
         requires passes { machine.passes self.old (message_view message.now) ≡ true }
         requires command { message.now.header.command < 2 ^ 24 }
-        ensures outputs { IfOk result (λ o. o ≡ (machine.on_answer self.old (message_view message.now)).outputs) }
-        ensures ledger { OnOk result (self.new ≡ (machine.on_answer self.old (message_view message.now)).ledger) }
+        ensures outputs { IfOk result
+            (λ o. o ≡ (machine.on_answer self.old (message_view message.now)).outputs) }
+        ensures ledger { OnOk result
+            (self.new ≡ (machine.on_answer self.old (message_view message.now)).ledger) }
         ensures err { OnErr result (self.new ≡ self.old) }
     {
         let input = PeerInput::Message(message);
@@ -222,8 +227,10 @@ impl Ledger {
     /// A message came.
     pub(crate) fn message(&mut self, alloc: Global, octets: &[u8]) -> Result<Outputs, NoMemory>
         requires { IsSteady self.old }
-        ensures outputs { IfOk result (λ o. o ≡ (machine.on_message self.old (read_message octets.now)).outputs) }
-        ensures ledger { OnOk result (self.new ≡ (machine.on_message self.old (read_message octets.now)).ledger) }
+        ensures outputs { IfOk result
+            (λ o. o ≡ (machine.on_message self.old (read_message octets.now)).outputs) }
+        ensures ledger { OnOk result
+            (self.new ≡ (machine.on_message self.old (read_message octets.now)).ledger) }
         ensures err { OnErr result (self.new ≡ self.old) }
     {
         let Ok(message) = diameter_message::parse(octets) else {

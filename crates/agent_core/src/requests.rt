@@ -63,8 +63,10 @@ fn access_route<'a>(
 ) -> Result<OwnRoute<'a>, NoMemory>
     requires limits { InLimits config.now }
     requires values { AllByRecursion IsShort packet.now.attributes }
-    ensures route { IfOk result (λ r. own_route_view r ≡ specs.access_route config.now packet.now serial) }
-    ensures fresh { IfOk result (λ r. r.fresh ≡ not (is_some (carried_state packet.now.attributes))) }
+    ensures route { IfOk result
+        (λ r. own_route_view r ≡ specs.access_route config.now packet.now serial) }
+    ensures fresh { IfOk result
+        (λ r. r.fresh ≡ not (is_some (carried_state packet.now.attributes))) }
     ensures fits { IfOk result (λ r. RouteFits 244 (own_route_view r)) }
 {
     if let Some(carried) = translation::carried_state(packet) {
@@ -94,7 +96,8 @@ fn accounting_session(
     client: &Client,
     packet: &Packet<'_>,
 ) -> Result<Octets, NoMemory>
-    ensures { IfOk result (λ s. s ≡ (specs.accounting_route config.now client.now packet.now).session) }
+    ensures { IfOk result
+        (λ s. s ≡ (specs.accounting_route config.now client.now packet.now).session) }
 {
     match translation::carried_class(packet) {
         Some(session) => Octets::copy(alloc, session),
@@ -117,7 +120,8 @@ fn accounting_route<'a>(
     requires limits { InLimits config.now }
     requires client { ClientInLimits client.now }
     requires values { AllByRecursion IsShort packet.now.attributes }
-    ensures route { IfOk result (λ r. own_route_view r ≡ specs.accounting_route config.now client.now packet.now) }
+    ensures route { IfOk result
+        (λ r. own_route_view r ≡ specs.accounting_route config.now client.now packet.now) }
     ensures fresh { IfOk result (λ r. r.fresh ≡ false) }
     ensures fits { IfOk result (λ r. RouteFits 1024 (own_route_view r)) }
 {
@@ -142,8 +146,10 @@ fn route<'a>(
     requires request { IsRequest config.now request.now }
     ensures route { (key : Key) → IfOk result (λ r. own_route_view r
         ≡ specs.route_of config.now (request_with key request.now) serial) }
-    ensures fresh { (key : Key) → IfOk result (λ r. r.fresh ≡ specs.is_fresh (request_with key request.now)) }
-    ensures fits { IfOk result (λ r. RouteFits (longest_session request.now.kind) (own_route_view r)) }
+    ensures fresh { (key : Key)
+        → IfOk result (λ r. r.fresh ≡ specs.is_fresh (request_with key request.now)) }
+    ensures fits { IfOk result
+        (λ r. RouteFits (longest_session request.now.kind) (own_route_view r)) }
 {
     if is_accounting(request.kind) {
         accounting_route(alloc, config, request.settings, &request.packet)
@@ -163,8 +169,10 @@ fn image(
     requires judged { IsJudged request.now.kind request.now.settings.now request.now.packet }
     requires route { RouteFits (longest_session request.now.kind) (route_view route.now) }
     ensures text { IfOk result (λ o. o
-        ≡ specs.image request.now.kind request.now.settings.now request.now.packet (route_view route.now) numbers) }
-    ensures message { IfOk result (λ o. (avps : List ℕ) × IsMessage o (header_by request.now.kind numbers) avps) }
+        ≡ specs.image request.now.kind request.now.settings.now request.now.packet
+        (route_view route.now) numbers) }
+    ensures message { IfOk result
+        (λ o. (avps : List ℕ) × IsMessage o (header_by request.now.kind numbers) avps) }
 {
     let packet = &request.packet;
     match request.kind {
@@ -200,9 +208,11 @@ pub(crate) fn prepare(
         ≡ specs.kept_of config.now (request_with key request.now) serial) }
     ensures sent { (key : Key) → IfOk result (λ p. p.sent
         ≡ specs.request_sent config.now (request_with key request.now) numbers serial) }
-    ensures fresh { (key : Key) → IfOk result (λ p. p.fresh ≡ specs.is_fresh (request_with key request.now)) }
+    ensures fresh { (key : Key)
+        → IfOk result (λ p. p.fresh ≡ specs.is_fresh (request_with key request.now)) }
     // It can be sent again.
-    ensures message { IfOk result (λ p. (avps : List ℕ) × IsMessage p.sent (header_by request.now.kind numbers) avps) }
+    ensures message { IfOk result
+        (λ p. (avps : List ℕ) × IsMessage p.sent (header_by request.now.kind numbers) avps) }
     // Its answer can be translated.
     ensures fits { IfOk result (λ p. KeptFits config.now p.kept) }
 {

@@ -74,9 +74,11 @@ fn packet_verdict<'a>(
     octets: &'a [u8],
 ) -> Result<Request<'a>, Reason>
     ensures exact { (port : ℕ) → request_view via address port result
-        ≡ specs.packet_verdict via address port octets.now (client, settings.now) (read_packet octets.now) }
+        ≡ specs.packet_verdict via address port octets.now (client, settings.now)
+        (read_packet octets.now) }
     ensures client { IfOk result (λ r. (r.client ≡ client) × (r.settings.now ≡ settings.now)) }
-    ensures judged { IfOk result (λ r. specs.kind_at via settings.now address r.packet ≡ Ok r.kind) }
+    ensures judged { IfOk result
+        (λ r. specs.kind_at via settings.now address r.packet ≡ Ok r.kind) }
     ensures values { IfOk result (λ r. AllByRecursion IsShort r.packet.attributes) }
 {
     let packet = match Packet::parse(octets) {

@@ -77,7 +77,8 @@ fn is_idle(input: &Input, outbox: u32, outputs: &[Output]) -> bool
 
 /// Puts an output behind others, where there is room for it.
 fn put(output: Output, outputs: &mut Vec<Output>)
-    ensures items { vec_len outputs.old < vec_capacity outputs.old → outputs.new.items ≡ outputs.old.items ++ output ∷ [] }
+    ensures items { vec_len outputs.old < vec_capacity outputs.old
+        → outputs.new.items ≡ outputs.old.items ++ output ∷ [] }
     ensures capacity { vec_capacity outputs.old ≤ vec_capacity outputs.new }
 {
     let _ = outputs.push(output);
@@ -122,8 +123,10 @@ impl<C: Clock> AgentDesk<C> {
         until: u64,
         sender: Option<EntrySender>,
     ) -> AgentDesk<C>
-        ensures { (base : RunBase) → StandsFor core [] → core.config ≡ base.config → until ≡ base.until
-            → HasRead (C.readings clock) base.before [] → sender ≡ base.sender → StandsBy C.readings result base [] }
+        ensures { (base : RunBase) → StandsFor core [] → core.config ≡ base.config
+            → until ≡ base.until
+            → HasRead (C.readings clock) base.before [] → sender ≡ base.sender
+            → StandsBy C.readings result base [] }
     {
         AgentDesk {
             alloc,
@@ -181,7 +184,11 @@ pub(crate) struct DeskEnd<C> {
 
 impl<C> AgentDesk<C> {
     pub(crate) fn into_end(self) -> DeskEnd<C>
-        ensures { result ≡ record { tools = record { clock = self.clock; sender = self.sender }; entries = self.entries; closed = self.closed } }
+        ensures { result ≡ record {
+          tools = record { clock = self.clock; sender = self.sender };
+          entries = self.entries;
+          closed = self.closed;
+        } }
     {
         DeskEnd {
             tools: Tools {
@@ -208,8 +215,10 @@ impl<C> AgentDesk<C> {
     /// Makes room for what may go out for an event at this moment: in the send queue, and besides.
     fn make_room(&mut self, moment: u64) -> Result<Vec<Output>, NoMemory>
         ensures none { IfOk result (λ room. room.items ≡ []) }
-        ensures room { IfOk result (λ room. (H : List Event) → StandsFor self.old.core H → (e : Event) → e.moment ≡ moment
-            → HasRoom (length self.new.send_queue.items) (vec_capacity self.new.send_queue) (vec_capacity room) (outputs_after self.old.core.config H e)) }
+        ensures room { IfOk result
+            (λ room. (H : List Event) → StandsFor self.old.core H → (e : Event) → e.moment ≡ moment
+            → HasRoom (length self.new.send_queue.items) (vec_capacity self.new.send_queue)
+            (vec_capacity room) (outputs_after self.old.core.config H e)) }
         ensures same { IsSame self.old self.new }
     {
         let most = self.most_outputs(moment);
@@ -226,7 +235,9 @@ impl<C> AgentDesk<C> {
         all: Vec<Output>,
         room: Vec<Output>,
     ) -> Heard
-        ensures { room.items ≡ [] → HasRoom (length self.old.send_queue.items) (vec_capacity self.old.send_queue) (vec_capacity room) all.items → IsCalm (drain_test ask.now) begun all.items
+        ensures { room.items ≡ []
+            → HasRoom (length self.old.send_queue.items) (vec_capacity self.old.send_queue)
+            (vec_capacity room) all.items → IsCalm (drain_test ask.now) begun all.items
             → Enters self.old self.new moment ask.now begun all.items result }
     {
         let drained = is_drain(ask);

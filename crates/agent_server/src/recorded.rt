@@ -36,7 +36,13 @@ fn unrecorded<C, D, L: Dialer, W, E>(
     world: World<C, D, L, W>,
     refused: Unrecorded<E>,
 ) -> RecordedRun<C, D, L, W, E>
-    ensures finish { result.finish ≡ record { status = if refused.refused then NoThread else OutOfMemory; world = world; trail = None; home = None } }
+    ensures finish { result.finish ≡ record {
+      status = if refused.refused then NoThread else
+          OutOfMemory;
+      world = world;
+      trail = None;
+      home = None;
+    } }
     ensures record { result.record ≡ record { writer = refused.writer; closed = None } }
 {
     let status = if refused.refused {
@@ -81,11 +87,17 @@ where
     E: EntryWriter + Send + Drop + 'static,
     V: Crew<Recorder<E>>,
     requires limits { InLimits config }
-    requires rows { ((D.told world.auth).row ≡ 0) × ((D.told world.acct).row ≡ 0) × ((L.told world.dialer).row ≡ 0) }
+    requires rows { ((D.told world.auth).row ≡ 0) × ((D.told world.acct).row ≡ 0)
+        × ((L.told world.dialer).row ≡ 0) }
     ensures home { result.finish.home ≡ None }
     ensures ran { (base : E.Base) → E.stands writer base []
-        → (Unstarted world result.finish.world result.finish.status result.finish.trail result.record.closed (V.faults recorders.old) (V.faults recorders.new) × E.stands result.record.writer base [])
-        ⊎ RanRecorded E.stands C.readings D.told L.In.told L.Out.told L.told L.made W.faults W.started (HasToldOnly (C.readings world.clock)) config until world result.finish.world result.finish.status result.finish.trail
+        →
+        (Unstarted world result.finish.world result.finish.status result.finish.trail
+        result.record.closed (V.faults recorders.old) (V.faults recorders.new)
+        × E.stands result.record.writer base [])
+        ⊎ RanRecorded E.stands C.readings D.told L.In.told L.Out.told L.told L.made W.faults
+        W.started (HasToldOnly (C.readings world.clock)) config until world result.finish.world
+        result.finish.status result.finish.trail
         base result.record.writer result.record.closed }
     ensures sound { result.record.closed ≡ None → E.faults result.record.writer ≡ E.faults writer }
 {

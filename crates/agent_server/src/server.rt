@@ -111,21 +111,33 @@ where
     W: Crew<Worker<C, D, L::In>>,
     requires table { table_of pass ≡ arc_value turnstile.now }
     requires row { (L.told dialer.old).row ≡ 0 }
-    requires started { StartedAs L.In.told L.Out.told D.told (arc_value turnstile.now) (known pass) team.link link_out past }
-    requires readers { IsReader (arc_value turnstile.now) 1 team.auth × IsReader (arc_value turnstile.now) 2 team.acct }
+    requires started { StartedAs L.In.told L.Out.told D.told (arc_value turnstile.now) (known pass)
+        team.link link_out past }
+    requires readers { IsReader (arc_value turnstile.now) 1 team.auth
+        × IsReader (arc_value turnstile.now) 2 team.acct }
     ensures some { IsSome result.trail }
     ensures started { W.started crew.old ≤ W.started crew.new }
-    ensures kept { IfSome result.trail (λ trail. Keeps (length past.pairs.items + 1) (length trail.links) (L.made dialer.old) (L.made dialer.new)) }
-    ensures ports { IfSome result.trail (λ trail. ports_of D.told (twins_of trail) ≡ ports_in D.told team.link) }
-    ensures order { (made : ℕ) → InOrder made (numbers_of L.In.told past.pairs.items ++ number_in L.In.told team.link ∷ [])
-        → L.made dialer.old ≡ counted made (length past.pairs.items + 1) → IfSome result.trail (λ trail. InOrder made (numbers_of L.In.told trail.links)) }
-    ensures served { (base : RunBase) (dials : Dials) (auth acct : Socket) → Carries (StandsBy C.readings) (known pass) base
-        → RoseBy (ticks (of 0 (known pass).seen)) dials.faults (L.told dialer.old).faults → dials.faults ≤ (L.told dialer.old).faults
-        → StartsFor D.told Auth 1 (known pass) auth team.auth → StartsFor D.told Acct 2 (known pass) acct team.acct
-        → IfSome result.trail (λ trail. Served C.readings D.told L.In.told L.Out.told base.config base.until base.before auth acct (D.told result.auth) (D.told result.acct)
-        dials (L.told dialer.new) (W.faults crew.old) (W.faults crew.new) result.tools.clock trail result.status) }
+    ensures kept { IfSome result.trail (λ trail. Keeps (length past.pairs.items + 1)
+        (length trail.links) (L.made dialer.old) (L.made dialer.new)) }
+    ensures ports { IfSome result.trail
+        (λ trail. ports_of D.told (twins_of trail) ≡ ports_in D.told team.link) }
+    ensures order { (made : ℕ)
+        → InOrder made (numbers_of L.In.told past.pairs.items ++ number_in L.In.told team.link ∷ [])
+        → L.made dialer.old ≡ counted made (length past.pairs.items + 1)
+        → IfSome result.trail (λ trail. InOrder made (numbers_of L.In.told trail.links)) }
+    ensures served { (base : RunBase) (dials : Dials) (auth acct : Socket)
+        → Carries (StandsBy C.readings) (known pass) base
+        → RoseBy (ticks (of 0 (known pass).seen)) dials.faults (L.told dialer.old).faults
+        → dials.faults ≤ (L.told dialer.old).faults
+        → StartsFor D.told Auth 1 (known pass) auth team.auth
+        → StartsFor D.told Acct 2 (known pass) acct team.acct
+        → IfSome result.trail (λ trail. Served C.readings D.told L.In.told L.Out.told base.config
+        base.until base.before auth acct (D.told result.auth) (D.told result.acct)
+        dials (L.told dialer.new) (W.faults crew.old) (W.faults crew.new) result.tools.clock trail
+        result.status) }
     ensures sent { (base : RunBase) → Carries (StandsBy C.readings) (known pass) base
-        → IfSome result.trail (λ trail. HasSent base.sender result.tools.sender (entries_recorded base.config (plain trail.turns))) }
+        → IfSome result.trail (λ trail. HasSent base.sender result.tools.sender
+        (entries_recorded base.config (plain trail.turns))) }
 {
     let Team { auth, acct, link } = team;
     let first = Live {
@@ -162,12 +174,16 @@ where
     ensures some { IsSome result.trail }
     ensures links { IfSome result.trail (λ trail. trail.links ≡ past.pairs.items) }
     ensures twins { IfSome result.trail (λ trail. twins_of trail ≡ twins) }
-    ensures served { (base : RunBase) (first then last : Dials) (starts now : ℕ) (auth_socket acct_socket : Socket) (k : Known (AgentDesk C) Input Heard)
-        → AllDone C.readings D.told I.told O.told base first then last starts now auth_socket acct_socket k (known pass) end twins past auth acct
-        → IfSome result.trail (λ trail. Served C.readings D.told I.told O.told base.config base.until base.before auth_socket acct_socket (D.told result.auth) (D.told result.acct)
+    ensures served { (base : RunBase) (first then last : Dials) (starts now : ℕ)
+        (auth_socket acct_socket : Socket) (k : Known (AgentDesk C) Input Heard)
+        → AllDone C.readings D.told I.told O.told base first then last starts now auth_socket
+        acct_socket k (known pass) end twins past auth acct
+        → IfSome result.trail (λ trail. Served C.readings D.told I.told O.told base.config
+        base.until base.before auth_socket acct_socket (D.told result.auth) (D.told result.acct)
         first last starts now result.tools.clock trail result.status) }
     ensures sent { (base : RunBase) → Carries (StandsBy C.readings) (known pass) base
-        → IfSome result.trail (λ trail. HasSent base.sender result.tools.sender (entries_recorded base.config (plain trail.turns))) }
+        → IfSome result.trail (λ trail. HasSent base.sender result.tools.sender
+        (entries_recorded base.config (plain trail.turns))) }
 {
     turnstile.join(&mut pass, auth.pass);
     turnstile.join(&mut pass, acct.pass);
@@ -219,21 +235,30 @@ where
     L::Out: Drop,
     W: Crew<Worker<C, D, L::In>>,
     requires ready { IsReady stand }
-    requires rows { ((D.told auth).row ≡ 0) × ((D.told acct).row ≡ 0) × ((L.told dialer.old).row ≡ 0) }
+    requires rows { ((D.told auth).row ≡ 0) × ((D.told acct).row ≡ 0)
+        × ((L.told dialer.old).row ≡ 0) }
     ensures trail { HasTrail result.trail (W.started crew.old) (W.started crew.new) }
-    ensures links { IfSome result.trail (λ trail. L.made dialer.new ≡ counted (L.made dialer.old) (length trail.links)) }
-    ensures ports { IfSome result.trail (λ trail. ports_of D.told (twins_of trail) ≡ ((D.told auth).port, (D.told acct).port)) }
-    ensures order { IfSome result.trail (λ trail. InOrder (L.made dialer.old) (numbers_of L.In.told trail.links)) }
+    ensures links { IfSome result.trail
+        (λ trail. L.made dialer.new ≡ counted (L.made dialer.old) (length trail.links)) }
+    ensures ports { IfSome result.trail
+        (λ trail. ports_of D.told (twins_of trail) ≡ ((D.told auth).port, (D.told acct).port)) }
+    ensures order { IfSome result.trail
+        (λ trail. InOrder (L.made dialer.old) (numbers_of L.In.told trail.links)) }
     ensures began { (base : RunBase) → Carries (StandsBy C.readings) (known stand.pass) base
         → IfNone result.trail (BeganFrom C.readings base result.tools) }
     ensures served { (base : RunBase) → Carries (StandsBy C.readings) (known stand.pass) base
-        → IfSome result.trail (λ trail. Served C.readings D.told L.In.told L.Out.told base.config base.until base.before (D.told auth) (D.told acct) (D.told result.auth) (D.told result.acct)
-        (L.told dialer.old) (L.told dialer.new) (W.faults crew.old) (W.faults crew.new) result.tools.clock trail result.status) }
+        → IfSome result.trail (λ trail. Served C.readings D.told L.In.told L.Out.told base.config
+        base.until base.before (D.told auth) (D.told acct) (D.told result.auth) (D.told result.acct)
+        (L.told dialer.old) (L.told dialer.new) (W.faults crew.old) (W.faults crew.new)
+        result.tools.clock trail result.status) }
     ensures sent { (base : RunBase) → Carries (StandsBy C.readings) (known stand.pass) base
-        → IfSome result.trail (λ trail. HasSent base.sender result.tools.sender (entries_recorded base.config (plain trail.turns))) }
+        → IfSome result.trail (λ trail. HasSent base.sender result.tools.sender
+        (entries_recorded base.config (plain trail.turns))) }
     ensures early { (base : RunBase) → Carries (StandsBy C.readings) (known stand.pass) base
-        → IfNone result.trail (EndsEarly result.status (C.readings result.tools.clock) base.until (L.told dialer.old) (L.told dialer.new)
-        (Rose (D.told auth).faults (D.told result.auth).faults ⊎ Rose (D.told acct).faults (D.told result.acct).faults)
+        → IfNone result.trail (EndsEarly result.status (C.readings result.tools.clock) base.until
+        (L.told dialer.old) (L.told dialer.new)
+        (Rose (D.told auth).faults (D.told result.auth).faults
+        ⊎ Rose (D.told acct).faults (D.told result.acct).faults)
         (Rose (W.faults crew.old) (W.faults crew.new))) }
 {
     let Stand {
@@ -298,9 +323,12 @@ where
     L::Out: Drop,
     W: Crew<Worker<C, D, L::In>>,
     requires limits { InLimits config }
-    requires rows { ((D.told world.auth).row ≡ 0) × ((D.told world.acct).row ≡ 0) × ((L.told world.dialer).row ≡ 0) }
+    requires rows { ((D.told world.auth).row ≡ 0) × ((D.told world.acct).row ≡ 0)
+        × ((L.told world.dialer).row ≡ 0) }
     ensures home { result.0.home ≡ None }
-    ensures ran { RanFrom C.readings D.told L.In.told L.Out.told L.told L.made W.faults W.started (HasToldOnly (C.readings world.clock)) config until world result.0.world result.0.status result.0.trail
+    ensures ran { RanFrom C.readings D.told L.In.told L.Out.told L.told L.made W.faults W.started
+        (HasToldOnly (C.readings world.clock)) config until world result.0.world result.0.status
+        result.0.trail
         (HasSent sender result.1) }
 {
     let World {
@@ -364,9 +392,12 @@ where
     L::Out: Drop,
     W: Crew<Worker<C, D, L::In>>,
     requires limits { InLimits config }
-    requires rows { ((D.told world.auth).row ≡ 0) × ((D.told world.acct).row ≡ 0) × ((L.told world.dialer).row ≡ 0) }
+    requires rows { ((D.told world.auth).row ≡ 0) × ((D.told world.acct).row ≡ 0)
+        × ((L.told world.dialer).row ≡ 0) }
     ensures home { result.home ≡ None }
-    ensures ran { RanFrom C.readings D.told L.In.told L.Out.told L.told L.made W.faults W.started (HasToldOnly (C.readings world.clock)) config until world result.world result.status result.trail IsAny }
+    ensures ran { RanFrom C.readings D.told L.In.told L.Out.told L.told L.made W.faults W.started
+        (HasToldOnly (C.readings world.clock)) config until world result.world result.status
+        result.trail IsAny }
 {
     let (finish, _) = serve_sending(rt, alloc, random, config, world, until, None);
     finish

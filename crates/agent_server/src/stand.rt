@@ -58,7 +58,8 @@ pub(crate) fn tools_of<C: Clock + Drop>(
 ) -> Tools<C>
     requires table { table_of pass ≡ turnstile.now }
     requires all { length (known pass).numbers ≡ 4 }
-    ensures { (base : RunBase) → Carries (StandsBy C.readings) (known pass) base → IsRead C.readings result base (known pass).seen }
+    ensures { (base : RunBase) → Carries (StandsBy C.readings) (known pass) base
+        → IsRead C.readings result base (known pass).seen }
 {
     let (desk, _) = turnstile.close(pass);
     let DeskEnd {
@@ -82,9 +83,12 @@ where
     O: Drop,
     requires { InLimits config }
     ensures ready { IfOk result IsReady }
-    ensures carries { (base : RunBase) → config ≡ base.config → until ≡ base.until → HasRead (C.readings tools.clock) base.before []
-        → tools.sender ≡ base.sender → IfOk result (λ stand. Carries (StandsBy C.readings) (known stand.pass) base) }
-    ensures began { (base : RunBase) → config ≡ base.config → until ≡ base.until → HasRead (C.readings tools.clock) base.before []
+    ensures carries { (base : RunBase) → config ≡ base.config → until ≡ base.until
+        → HasRead (C.readings tools.clock) base.before []
+        → tools.sender ≡ base.sender
+        → IfOk result (λ stand. Carries (StandsBy C.readings) (known stand.pass) base) }
+    ensures began { (base : RunBase) → config ≡ base.config → until ≡ base.until
+        → HasRead (C.readings tools.clock) base.before []
         → tools.sender ≡ base.sender → IfErr result (BeganFrom C.readings base) }
 {
     let Ok(pairs) = Vec::with_capacity(alloc, MOST_LINKS) else {
@@ -170,14 +174,21 @@ where
     requires seen { (known pass.old).seen ≡ [] }
     requires row { (L.told dialer.old).row ≡ 0 }
     ensures table { table_of pass.new ≡ table_of pass.old }
-    ensures same { ((known pass.new).first ≡ (known pass.old).first) × ((known pass.new).numbers ≡ (known pass.old).numbers) }
-    ensures opened { IfOk result (λ first. FirstOpened L.In.told L.Out.told D.told first (known pass.new).seen (L.told dialer.old) (L.told dialer.new)) }
+    ensures same { ((known pass.new).first ≡ (known pass.old).first)
+        × ((known pass.new).numbers ≡ (known pass.old).numbers) }
+    ensures opened { IfOk result (λ first. FirstOpened L.In.told L.Out.told D.told first
+        (known pass.new).seen (L.told dialer.old) (L.told dialer.new)) }
     ensures made { IfOk result (λ first. L.made dialer.new ≡ counted (L.made dialer.old) 1) }
-    ensures alike { IfOk result (λ first. Alike (D.told auth.old) (D.told auth.new) × Alike (D.told acct.old) (D.told acct.new)) }
-    ensures ports { IfOk result (λ first. ports_of D.told first.twins ≡ ((D.told auth.old).port, (D.told acct.old).port)) }
-    ensures numbered { IfOk result (λ first. TellsOnly (L.In.told first.pair.link_in).number (L.made dialer.old)) }
-    ensures failed { IfErr result (λ status. FirstFails status (known pass.new).seen (L.told dialer.old) (L.told dialer.new)
-        (Rose (D.told auth.old).faults (D.told auth.new).faults ⊎ Rose (D.told acct.old).faults (D.told acct.new).faults)) }
+    ensures alike { IfOk result (λ first. Alike (D.told auth.old) (D.told auth.new)
+        × Alike (D.told acct.old) (D.told acct.new)) }
+    ensures ports { IfOk result
+        (λ first. ports_of D.told first.twins ≡ ((D.told auth.old).port, (D.told acct.old).port)) }
+    ensures numbered { IfOk result
+        (λ first. TellsOnly (L.In.told first.pair.link_in).number (L.made dialer.old)) }
+    ensures failed { IfErr result
+        (λ status. FirstFails status (known pass.new).seen (L.told dialer.old) (L.told dialer.new)
+        (Rose (D.told auth.old).faults (D.told auth.new).faults
+        ⊎ Rose (D.told acct.old).faults (D.told acct.new).faults)) }
 {
     let pair = match dial(rt, turnstile, pass, dialer) {
         Dialling::Made { link_in, link_out } => Pair { link_in, link_out },

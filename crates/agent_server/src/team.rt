@@ -49,10 +49,12 @@ fn make_workers<C: Clock + Drop, D, I>(
     requires numbers { (known pass.old).numbers ≡ 0 ∷ 1 ∷ 2 ∷ 3 ∷ [] }
     requires shares { AreShares (arc_value turnstile.now) shares }
     ensures own { IsPassOf (arc_value turnstile.now) 0 (table_of pass.new) (known pass.new) }
-    ensures same { ((known pass.new).seen ≡ (known pass.old).seen) × ((known pass.new).first ≡ (known pass.old).first) }
+    ensures same { ((known pass.new).seen ≡ (known pass.old).seen)
+        × ((known pass.new).first ≡ (known pass.old).first) }
     ensures auth { IsReaderOf (arc_value turnstile.now) 1 Auth (known pass.new) auth result.auth }
     ensures acct { IsReaderOf (arc_value turnstile.now) 2 Acct (known pass.new) acct result.acct }
-    ensures link { IsLinkReaderOf (arc_value turnstile.now) 3 (known pass.new) link twins result.link }
+    ensures link { IsLinkReaderOf (arc_value turnstile.now) 3 (known pass.new) link twins
+        result.link }
 {
     let link = Worker::Link {
         alloc,
@@ -116,11 +118,14 @@ where
     D: Datagrams + Send + Drop + 'static,
     I: LinkIn + Send + Drop + 'static,
     W: Crew<Worker<C, D, I>>,
-    requires can { CanRun D.told I.told workers.auth × CanRun D.told I.told workers.acct × CanRun D.told I.told workers.link }
-    ensures ok { IfOk result (λ team. (team.auth ≡ workers.auth) × (team.acct ≡ workers.acct) × (team.link ≡ workers.link)) }
+    requires can { CanRun D.told I.told workers.auth × CanRun D.told I.told workers.acct
+        × CanRun D.told I.told workers.link }
+    ensures ok { IfOk result (λ team. (team.auth ≡ workers.auth) × (team.acct ≡ workers.acct)
+        × (team.link ≡ workers.link)) }
     ensures unrefused { IfOk result (λ team. W.faults crew.new ≡ W.faults crew.old) }
     ensures all_started { IfOk result (λ team. RoseBy 3 (W.started crew.old) (W.started crew.new)) }
-    ensures err { IfErr result (λ team. IsStart workers.auth team.auth × IsStart workers.acct team.acct × (team.link ≡ workers.link)) }
+    ensures err { IfErr result (λ team. IsStart workers.auth team.auth
+        × IsStart workers.acct team.acct × (team.link ≡ workers.link)) }
     ensures refused { IfErr result (λ team. Rose (W.faults crew.old) (W.faults crew.new)) }
     ensures few_started { IfErr result (λ team. W.started crew.new < W.started crew.old + 3) }
 {
@@ -178,14 +183,18 @@ where
     requires rows { ((D.told auth).row ≡ 0) × ((D.told acct).row ≡ 0) }
     requires fresh { IsFreshInlet (I.told link) }
     ensures own { IsPassOf (arc_value turnstile.now) 0 (table_of pass.new) (known pass.new) }
-    ensures same { ((known pass.new).seen ≡ (known pass.old).seen) × ((known pass.new).first ≡ (known pass.old).first) }
-    ensures ok { IfOk result (λ team. IsReaderOf (arc_value turnstile.now) 1 Auth (known pass.new) auth team.auth
+    ensures same { ((known pass.new).seen ≡ (known pass.old).seen)
+        × ((known pass.new).first ≡ (known pass.old).first) }
+    ensures ok { IfOk result
+        (λ team. IsReaderOf (arc_value turnstile.now) 1 Auth (known pass.new) auth team.auth
         × IsReaderOf (arc_value turnstile.now) 2 Acct (known pass.new) acct team.acct
         × IsLinkReaderOf (arc_value turnstile.now) 3 (known pass.new) link twins team.link) }
     ensures unrefused { IfOk result (λ team. W.faults crew.new ≡ W.faults crew.old) }
     ensures all_started { IfOk result (λ team. RoseBy 3 (W.started crew.old) (W.started crew.new)) }
-    ensures err { IfErr result (λ team. MatchResult team.auth (IsReader (arc_value turnstile.now) 1) (IsReader (arc_value turnstile.now) 1)
-        × MatchResult team.acct (IsReader (arc_value turnstile.now) 2) (IsReader (arc_value turnstile.now) 2)
+    ensures err { IfErr result (λ team. MatchResult team.auth (IsReader (arc_value turnstile.now) 1)
+        (IsReader (arc_value turnstile.now) 1)
+        × MatchResult team.acct (IsReader (arc_value turnstile.now) 2)
+        (IsReader (arc_value turnstile.now) 2)
         × IsLinkReader (arc_value turnstile.now) 3 team.link) }
     ensures refused { IfErr result (λ team. Rose (W.faults crew.old) (W.faults crew.new)) }
     ensures few_started { IfErr result (λ team. W.started crew.new < W.started crew.old + 3) }
@@ -291,7 +300,8 @@ where
     I: LinkIn + Send + Drop + 'static,
     W: Crew<Worker<C, D, I>>,
     requires table { table_of pass.old ≡ arc_value turnstile.now }
-    requires theirs { (number : ℕ) × MatchResult reader (IsReader (arc_value turnstile.now) number) (IsReader (arc_value turnstile.now) number) }
+    requires theirs { (number : ℕ) × MatchResult reader (IsReader (arc_value turnstile.now) number)
+        (IsReader (arc_value turnstile.now) number) }
     ensures table { table_of pass.new ≡ table_of pass.old }
     ensures one_more { length (known pass.new).numbers ≡ length (known pass.old).numbers + 1 }
     ensures first { (known pass.new).first ≡ (known pass.old).first }
@@ -338,11 +348,14 @@ where
     I: LinkIn + Send + Drop + 'static,
     W: Crew<Worker<C, D, I>>,
     requires own { IsPassOf (arc_value turnstile.now) 0 (table_of pass) (known pass) }
-    requires auth { MatchResult team.auth (IsReader (arc_value turnstile.now) 1) (IsReader (arc_value turnstile.now) 1) }
-    requires acct { MatchResult team.acct (IsReader (arc_value turnstile.now) 2) (IsReader (arc_value turnstile.now) 2) }
+    requires auth { MatchResult team.auth (IsReader (arc_value turnstile.now) 1)
+        (IsReader (arc_value turnstile.now) 1) }
+    requires acct { MatchResult team.acct (IsReader (arc_value turnstile.now) 2)
+        (IsReader (arc_value turnstile.now) 2) }
     requires link { IsLinkReader (arc_value turnstile.now) 3 team.link }
     ensures ends { (result.status ≡ NoThread) × (result.trail ≡ None) }
-    ensures began { (base : RunBase) → Carries (StandsBy C.readings) (known pass) base → BeganFrom C.readings base result.tools }
+    ensures began { (base : RunBase) → Carries (StandsBy C.readings) (known pass) base
+        → BeganFrom C.readings base result.tools }
     ensures faults { W.faults crew.new ≡ W.faults crew.old }
     ensures started { W.started crew.new ≡ W.started crew.old }
 {

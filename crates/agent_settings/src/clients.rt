@@ -67,7 +67,8 @@ impl Clients {
     /// The client with this address, and its place.
     pub fn by_address(&self, address: u32) -> Option<(u32, &Client)>
         requires { length self.now ≤ 1024 }
-        ensures { option_map (λ found. (found.0, found.1.now)) result ≡ find_address address self.now }
+        ensures { option_map (λ found. (found.0, found.1.now)) result
+            ≡ find_address address self.now }
     {
         match self.clients.get_full(&address) {
             Some((place, _, client)) => Some((place as u32, client)),

@@ -35,7 +35,8 @@ pub struct Config {
 
 /// Whether the names are names that settings may hold.
 fn has_good_names(config: &Config) -> bool
-    ensures { result ≡ (specs.is_name config.now.host && specs.is_name config.now.realm && specs.is_name config.now.home_realm) }
+    ensures { result ≡ (specs.is_name config.now.host && specs.is_name config.now.realm &&
+        specs.is_name config.now.home_realm) }
 {
     is_name(config.host.as_slice())
         && is_name(config.realm.as_slice())
@@ -44,8 +45,10 @@ fn has_good_names(config: &Config) -> bool
 
 /// Whether the names and how long entries live are within their limits.
 fn has_good_lives(config: &Config) -> bool
-    ensures { result ≡ (specs.is_name config.now.host && specs.is_name config.now.realm && specs.is_name config.now.home_realm
-        && specs.is_between 1000 300000 config.now.retention && specs.is_between 1000 300000 config.now.patience) }
+    ensures { result ≡ (specs.is_name config.now.host && specs.is_name config.now.realm &&
+        specs.is_name config.now.home_realm
+        && specs.is_between 1000 300000 config.now.retention && specs.is_between 1000 300000
+        config.now.patience) }
 {
     has_good_names(config)
         && (1_000..=300_000).contains(&config.retention)

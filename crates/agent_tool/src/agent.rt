@@ -59,80 +59,140 @@ where
     Q: Wait + rt::Clock + Send + Drop + 'static,
     T: Sink + Send + Drop + 'static,
     V: Crew<Recorder<RecordText<Q, T>>>,
-    requires rows { ((D.told world.auth).row ≡ 0) × ((D.told world.acct).row ≡ 0) × ((L.told world.dialer).row ≡ 0) }
+    requires rows { ((D.told world.auth).row ≡ 0) × ((D.told world.acct).row ≡ 0)
+        × ((L.told world.dialer).row ≡ 0) }
     requires sound { tape.writer.faults ≡ 0 }
     // Which words are no command's, and what they leave as it was.
     ensures usage { result.finish.status ≡ Status.Usage ↔ command_of_words words.now ≡ None }
     ensures unread { reads_input (command_of_words words.now) ≡ false → input.new ≡ input.old }
     ensures unwritten { result.finish.status ≡ Status.Usage → output.new ≡ output.old }
     ensures idle { places_of (command_of_words words.now) ≡ None
-        → result.finish ≡ record { status = result.finish.status; world = world; trail = None; home = None } }
-    ensures unrecorded { is_recorded (command_of_words words.now) ≡ false → result ≡ record { finish = result.finish; tape = tape; closed = None } }
+        → result.finish
+        ≡ record { status = result.finish.status; world = world; trail = None; home = None } }
+    ensures unrecorded { is_recorded (command_of_words words.now) ≡ false
+        → result ≡ record { finish = result.finish; tape = tape; closed = None } }
     // The commands that go from text to text.
-    ensures ends { (command : TextCommand) → command_of_words words.now ≡ Some (commands.Text command)
-        → EndsAs command result.finish.status (S.left input.old) (S.left input.new) (K.written output.old) (K.written output.new) }
-    ensures known { (command : TextCommand) → command_of_words words.now ≡ Some (commands.Text command) → IsEndAs command result.finish.status }
-    ensures counts { (command : TextCommand) → command_of_words words.now ≡ Some (commands.Text command)
-        → CountsAs command result.finish.status (S.ends input.old) (S.ends input.new) (S.faults input.old) (S.faults input.new)
+    ensures ends { (command : TextCommand)
+        → command_of_words words.now ≡ Some (commands.Text command)
+        → EndsAs command result.finish.status (S.left input.old) (S.left input.new)
+        (K.written output.old) (K.written output.new) }
+    ensures known { (command : TextCommand) → command_of_words words.now
+        ≡ Some (commands.Text command) → IsEndAs command result.finish.status }
+    ensures counts { (command : TextCommand)
+        → command_of_words words.now ≡ Some (commands.Text command)
+        → CountsAs command result.finish.status (S.ends input.old) (S.ends input.new)
+        (S.faults input.old) (S.faults input.new)
         (K.faults output.old) (K.faults output.new) }
-    ensures complete { (command : TextCommand) → command_of_words words.now ≡ Some (commands.Text command)
+    ensures complete { (command : TextCommand)
+        → command_of_words words.now ≡ Some (commands.Text command)
         → (X : List ℕ) → S.left input.old ≡ Some X → IsSound command X
-        → ¬ Rose (S.faults input.old) (S.faults input.new) → ¬ Rose (K.faults output.old) (K.faults output.new)
+        → ¬ Rose (S.faults input.old) (S.faults input.new)
+        → ¬ Rose (K.faults output.old) (K.faults output.new)
         → (result.finish.status ≡ Status.Done) ⊎ (result.finish.status ≡ Status.OutOfMemory) }
     // The server, by what `serve` promises of it.
-    ensures served { (address auth acct peer port millis : ℕ) → command_of_words words.now ≡ Some (commands.Run (places.Serve address auth acct peer port) millis)
-        → ServesBy C.readings D.told L.In.told L.Out.told L.told L.made W.faults W.started millis (S.left input.old) (S.left input.new)
-        world result.finish.world result.finish.status result.finish.trail (K.written output.old) (K.written output.new) (K.faults output.old) (K.faults output.new) }
+    ensures served { (address auth acct peer port millis : ℕ) → command_of_words words.now
+        ≡ Some (commands.Run (places.Serve address auth acct peer port) millis)
+        → ServesBy C.readings D.told L.In.told L.Out.told L.told L.made W.faults W.started millis
+        (S.left input.old) (S.left input.new)
+        world result.finish.world result.finish.status result.finish.trail (K.written output.old)
+        (K.written output.new) (K.faults output.old) (K.faults output.new) }
     ensures untold { IfNone result.finish.trail ((address auth acct peer port millis : ℕ)
-        → command_of_words words.now ≡ Some (commands.Run (places.Serve address auth acct peer port) millis) → output.new ≡ output.old) }
-    ensures serve_counts { (address auth acct peer port millis : ℕ) → command_of_words words.now ≡ Some (commands.Run (places.Serve address auth acct peer port) millis)
-        → EndsCounts result.finish.status (S.ends input.old) (S.ends input.new) (S.faults input.old) (S.faults input.new) (K.faults output.old) (K.faults output.new) }
-    ensures serve_complete { (address auth acct peer port millis : ℕ) → command_of_words words.now ≡ Some (commands.Run (places.Serve address auth acct peer port) millis)
-        → (X : List ℕ) (config : Config) → S.left input.old ≡ Some X → settings_in X ≡ Ok config → length X ≤ most_whole
-        → ¬ Rose (S.faults input.old) (S.faults input.new) → ¬ Rose (K.faults output.old) (K.faults output.new)
-        → ¬ Rose (D.told world.auth).faults (D.told result.finish.world.auth).faults → ¬ Rose (D.told world.acct).faults (D.told result.finish.world.acct).faults
-        → ¬ Rose (L.told world.dialer).faults (L.told result.finish.world.dialer).faults → ¬ Rose (W.faults world.crew) (W.faults result.finish.world.crew)
+        → command_of_words words.now ≡ Some (commands.Run (places.Serve address auth acct peer port)
+        millis) → output.new ≡ output.old) }
+    ensures serve_counts { (address auth acct peer port millis : ℕ) → command_of_words words.now
+        ≡ Some (commands.Run (places.Serve address auth acct peer port) millis)
+        → EndsCounts result.finish.status (S.ends input.old) (S.ends input.new) (S.faults input.old)
+        (S.faults input.new) (K.faults output.old) (K.faults output.new) }
+    ensures serve_complete { (address auth acct peer port millis : ℕ) → command_of_words words.now
+        ≡ Some (commands.Run (places.Serve address auth acct peer port) millis)
+        → (X : List ℕ) (config : Config) → S.left input.old ≡ Some X → settings_in X ≡ Ok config
+        → length X ≤ most_whole
+        → ¬ Rose (S.faults input.old) (S.faults input.new)
+        → ¬ Rose (K.faults output.old) (K.faults output.new)
+        → ¬ Rose (D.told world.auth).faults (D.told result.finish.world.auth).faults
+        → ¬ Rose (D.told world.acct).faults (D.told result.finish.world.acct).faults
+        → ¬ Rose (L.told world.dialer).faults (L.told result.finish.world.dialer).faults
+        → ¬ Rose (W.faults world.crew) (W.faults result.finish.world.crew)
         → IsSoundEnd result.finish.status }
     // The server whose run is recorded, by what `record` promises of it.
-    ensures recorded { (address auth acct peer port millis : ℕ) → command_of_words words.now ≡ Some (commands.Run (places.Record address auth acct peer port) millis)
+    ensures recorded { (address auth acct peer port millis : ℕ) → command_of_words words.now
+        ≡ Some (commands.Run (places.Record address auth acct peer port) millis)
         → (SettingsNot result.finish.status (S.left input.old) (S.left input.new)
-        × (result ≡ record { finish = record { status = result.finish.status; world = world; trail = None; home = None }; tape = tape; closed = None }))
-        ⊎ Recorded C.readings D.told L.In.told L.Out.told L.told L.made W.faults W.started millis (S.left input.old) (S.left input.new)
+        × (result ≡ record {
+          finish = record {
+            status = result.finish.status;
+            world = world;
+            trail =
+                None;
+            home = None;
+          };
+          tape = tape;
+          closed = None;
+        }))
+        ⊎ Recorded C.readings D.told L.In.told L.Out.told L.told L.made W.faults W.started millis
+        (S.left input.old) (S.left input.new)
         world result.finish.world result.finish.status result.finish.trail
-        (T.written tape.writer.sink) (T.written result.tape.writer.sink) (T.faults tape.writer.sink) (T.faults result.tape.writer.sink)
+        (T.written tape.writer.sink) (T.written result.tape.writer.sink) (T.faults tape.writer.sink)
+        (T.faults result.tape.writer.sink)
         (V.faults tape.crew) (V.faults result.tape.crew) result.closed }
-    ensures record_unwritten { is_recorded (command_of_words words.now) ≡ true → output.new ≡ output.old }
-    ensures record_counts { (address auth acct peer port millis : ℕ) → command_of_words words.now ≡ Some (commands.Run (places.Record address auth acct peer port) millis)
-        → result.closed ≡ None → EndsCounts result.finish.status (S.ends input.old) (S.ends input.new) (S.faults input.old) (S.faults input.new)
+    ensures record_unwritten { is_recorded (command_of_words words.now) ≡ true
+        → output.new ≡ output.old }
+    ensures record_counts { (address auth acct peer port millis : ℕ) → command_of_words words.now
+        ≡ Some (commands.Run (places.Record address auth acct peer port) millis)
+        → result.closed ≡ None → EndsCounts result.finish.status (S.ends input.old)
+        (S.ends input.new) (S.faults input.old) (S.faults input.new)
         (T.faults tape.writer.sink) (T.faults result.tape.writer.sink) }
-    ensures record_complete { (address auth acct peer port millis : ℕ) → command_of_words words.now ≡ Some (commands.Run (places.Record address auth acct peer port) millis)
-        → (X : List ℕ) (config : Config) → S.left input.old ≡ Some X → settings_in X ≡ Ok config → length X ≤ most_whole
+    ensures record_complete { (address auth acct peer port millis : ℕ) → command_of_words words.now
+        ≡ Some (commands.Run (places.Record address auth acct peer port) millis)
+        → (X : List ℕ) (config : Config) → S.left input.old ≡ Some X → settings_in X ≡ Ok config
+        → length X ≤ most_whole
         → ¬ Rose (S.faults input.old) (S.faults input.new)
-        → result.closed ≡ None → ¬ Rose (T.faults tape.writer.sink) (T.faults result.tape.writer.sink)
-        → ¬ Rose (D.told world.auth).faults (D.told result.finish.world.auth).faults → ¬ Rose (D.told world.acct).faults (D.told result.finish.world.acct).faults
-        → ¬ Rose (L.told world.dialer).faults (L.told result.finish.world.dialer).faults → ¬ Rose (W.faults world.crew) (W.faults result.finish.world.crew)
+        → result.closed ≡ None
+        → ¬ Rose (T.faults tape.writer.sink) (T.faults result.tape.writer.sink)
+        → ¬ Rose (D.told world.auth).faults (D.told result.finish.world.auth).faults
+        → ¬ Rose (D.told world.acct).faults (D.told result.finish.world.acct).faults
+        → ¬ Rose (L.told world.dialer).faults (L.told result.finish.world.dialer).faults
+        → ¬ Rose (W.faults world.crew) (W.faults result.finish.world.crew)
         → ¬ Rose (V.faults tape.crew) (V.faults result.tape.crew)
         → IsSoundEnd result.finish.status }
     // The peers of the tests.
-    ensures home { (address port millis : ℕ) → command_of_words words.now ≡ Some (commands.Run (places.Home address port) millis)
-        → HomeEnds L.In.told L.Out.told result.finish.status result.finish.home millis (S.left input.old) (S.left input.new)
-        (L.told world.dialer) (L.told result.finish.world.dialer) (C.readings world.clock) (C.readings result.finish.world.clock) (K.written output.old) (K.written output.new) }
-    ensures home_causes { (address port millis : ℕ) → command_of_words words.now ≡ Some (commands.Run (places.Home address port) millis)
-        → HomeCausedBy L.In.told L.Out.told result.finish.status result.finish.home millis (S.faults input.old) (S.faults input.new)
-        (L.told world.dialer) (L.told result.finish.world.dialer) (C.readings world.clock) (C.readings result.finish.world.clock) (K.written output.old) (K.written output.new) }
-    ensures home_counts { (address port millis : ℕ) → command_of_words words.now ≡ Some (commands.Run (places.Home address port) millis)
-        → HomeCounts result.finish.status (S.faults input.old) (S.faults input.new) (K.faults output.old) (K.faults output.new) }
-    ensures home_complete { (address port millis : ℕ) → command_of_words words.now ≡ Some (commands.Run (places.Home address port) millis)
-        → IsSoundHome L.In.told L.Out.told result.finish.home (S.left input.old) → ¬ Rose (S.faults input.old) (S.faults input.new)
-        → ¬ Rose (K.faults output.old) (K.faults output.new) → ¬ Rose (L.told world.dialer).faults (L.told result.finish.world.dialer).faults
+    ensures home { (address port millis : ℕ)
+        → command_of_words words.now ≡ Some (commands.Run (places.Home address port) millis)
+        → HomeEnds L.In.told L.Out.told result.finish.status result.finish.home millis
+        (S.left input.old) (S.left input.new)
+        (L.told world.dialer) (L.told result.finish.world.dialer) (C.readings world.clock)
+        (C.readings result.finish.world.clock) (K.written output.old) (K.written output.new) }
+    ensures home_causes { (address port millis : ℕ)
+        → command_of_words words.now ≡ Some (commands.Run (places.Home address port) millis)
+        → HomeCausedBy L.In.told L.Out.told result.finish.status result.finish.home millis
+        (S.faults input.old) (S.faults input.new)
+        (L.told world.dialer) (L.told result.finish.world.dialer) (C.readings world.clock)
+        (C.readings result.finish.world.clock) (K.written output.old) (K.written output.new) }
+    ensures home_counts { (address port millis : ℕ)
+        → command_of_words words.now ≡ Some (commands.Run (places.Home address port) millis)
+        → HomeCounts result.finish.status (S.faults input.old) (S.faults input.new)
+        (K.faults output.old) (K.faults output.new) }
+    ensures home_complete { (address port millis : ℕ)
+        → command_of_words words.now ≡ Some (commands.Run (places.Home address port) millis)
+        → IsSoundHome L.In.told L.Out.told result.finish.home (S.left input.old)
+        → ¬ Rose (S.faults input.old) (S.faults input.new)
+        → ¬ Rose (K.faults output.old) (K.faults output.new)
+        → ¬ Rose (L.told world.dialer).faults (L.told result.finish.world.dialer).faults
         → (result.finish.status ≡ Status.Done) ⊎ (result.finish.status ≡ Status.OutOfMemory) }
-    ensures nas { (address port millis : ℕ) → command_of_words words.now ≡ Some (commands.Run (places.Nas address port) millis)
-        → NasRan result.finish.status address port millis (S.left input.old) (S.left input.new) (K.written output.old) (K.written output.new)
-        (C.readings world.clock) (C.readings result.finish.world.clock) (D.told world.auth) (D.told result.finish.world.auth) }
-    ensures nas_counts { (address port millis : ℕ) → command_of_words words.now ≡ Some (commands.Run (places.Nas address port) millis)
-        → EndsCounts result.finish.status (S.ends input.old) (S.ends input.new) (S.faults input.old) (S.faults input.new) (K.faults output.old) (K.faults output.new) }
-    ensures nas_complete { (address port millis : ℕ) → command_of_words words.now ≡ Some (commands.Run (places.Nas address port) millis)
-        → TakesAll (S.left input.old) → ¬ Rose (S.faults input.old) (S.faults input.new) → ¬ Rose (K.faults output.old) (K.faults output.new)
+    ensures nas { (address port millis : ℕ)
+        → command_of_words words.now ≡ Some (commands.Run (places.Nas address port) millis)
+        → NasRan result.finish.status address port millis (S.left input.old) (S.left input.new)
+        (K.written output.old) (K.written output.new)
+        (C.readings world.clock) (C.readings result.finish.world.clock) (D.told world.auth)
+        (D.told result.finish.world.auth) }
+    ensures nas_counts { (address port millis : ℕ)
+        → command_of_words words.now ≡ Some (commands.Run (places.Nas address port) millis)
+        → EndsCounts result.finish.status (S.ends input.old) (S.ends input.new) (S.faults input.old)
+        (S.faults input.new) (K.faults output.old) (K.faults output.new) }
+    ensures nas_complete { (address port millis : ℕ)
+        → command_of_words words.now ≡ Some (commands.Run (places.Nas address port) millis)
+        → TakesAll (S.left input.old) → ¬ Rose (S.faults input.old) (S.faults input.new)
+        → ¬ Rose (K.faults output.old) (K.faults output.new)
         → ¬ Rose (D.told world.auth).faults (D.told result.finish.world.auth).faults
         → (result.finish.status ≡ Status.Done) ⊎ (result.finish.status ≡ Status.OutOfMemory) }
 {

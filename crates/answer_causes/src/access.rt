@@ -128,7 +128,8 @@ fn avp_cause(kind: Class, client: &Client, list: &[Avp<'_>]) -> Option<Cause>
 /// Whether the State of a challenge can't be made.
 fn is_stateless(alloc: Global, kind: Class, kept: &Kept, list: &[Avp<'_>]) -> Result<bool, NoMemory>
     requires session { length kept.now.session ≤ 244 }
-    ensures { IfOk result (λ stateless. stateless ≡ answers.is_stateless kind kept.now (list_view list.now)) }
+    ensures { IfOk result
+        (λ stateless. stateless ≡ answers.is_stateless kind kept.now (list_view list.now)) }
 {
     let carrier = carrier_value(alloc, kind, kept.session.as_slice(), list)?;
     Ok(kind == Class::Challenge && carrier.is_none())
@@ -145,7 +146,8 @@ fn kind_cause(
 ) -> Result<Option<Cause>, NoMemory>
     requires session { length kept.now.session ≤ 244 }
     requires whole { kept.now.proxy ≡ attributes_text (attributes_in kept.now.proxy) }
-    ensures { IfOk result (λ cause. cause ≡ specs.kind_cause kind service client.now kept.now (list_view list.now)) }
+    ensures { IfOk result
+        (λ cause. cause ≡ specs.kind_cause kind service client.now kept.now (list_view list.now)) }
 {
     if !has_own_session(list, kept.session.as_slice()) {
         return Ok(Some(Cause::OtherSession));
@@ -176,7 +178,8 @@ pub(crate) fn access_cause(
 ) -> Result<Option<Cause>, NoMemory>
     requires session { length kept.now.session ≤ 244 }
     requires whole { kept.now.proxy ≡ attributes_text (attributes_in kept.now.proxy) }
-    ensures { IfOk result (λ cause. cause ≡ specs.access_cause service client.now kept.now header.now (list_view list.now)) }
+    ensures { IfOk result (λ cause. cause
+        ≡ specs.access_cause service client.now kept.now header.now (list_view list.now)) }
 {
     if !is_error(header) {
         return kind_cause(

@@ -28,7 +28,8 @@ fn cause_by_kind(
 ) -> Result<Option<Cause>, NoMemory>
     requires session { length kept.now.session ≤ specs.longest_session kept.now.kind }
     requires whole { kept.now.proxy ≡ attributes_text (attributes_in kept.now.proxy) }
-    ensures { IfOk result (λ cause. cause ≡ specs.cause_by_kind kept.now.kind client.now kept.now header.now (list_view list.now)) }
+    ensures { IfOk result (λ cause. cause
+        ≡ specs.cause_by_kind kept.now.kind client.now kept.now header.now (list_view list.now)) }
 {
     match kept.kind {
         Kind2::Access => access_cause(alloc, Service::Nasreq, client, kept, header, list),
@@ -48,7 +49,8 @@ pub fn cause_of(
 ) -> Result<Option<Cause>, NoMemory>
     requires session { length kept.now.session ≤ specs.longest_session kept.now.kind }
     requires whole { kept.now.proxy ≡ attributes_text (attributes_in kept.now.proxy) }
-    ensures { IfOk result (λ cause. cause ≡ specs.cause client.now kept.now (message_view message.now)) }
+    ensures { IfOk result
+        (λ cause. cause ≡ specs.cause client.now kept.now (message_view message.now)) }
 {
     match read(alloc, message.avps)? {
         Some(list) => cause_by_kind(alloc, client, kept, &message.header, list.as_slice()),

@@ -30,10 +30,13 @@ fn write<S: Source, K: Sink>(
     ensures begun { result ≢ AuditStatus.Usage }
     ensures writes { (X : List ℕ) → S.left input.old ≡ Some X
         → WritesBy result key X (S.left input.new) (K.written output.old) (K.written output.new) }
-    ensures counts { AuditCounts result (S.ends input.old) (S.ends input.new) (S.faults input.old) (S.faults input.new)
+    ensures counts { AuditCounts result (S.ends input.old) (S.ends input.new) (S.faults input.old)
+        (S.faults input.new)
         (K.faults output.old) (K.faults output.new) }
-    ensures complete { (X : List ℕ) → S.left input.old ≡ Some X → replay_task.stop (lines_of X) ≡ None → length X ≤ most_octets
-        → ¬ Rose (S.faults input.old) (S.faults input.new) → ¬ Rose (K.faults output.old) (K.faults output.new)
+    ensures complete { (X : List ℕ) → S.left input.old ≡ Some X
+        → replay_task.stop (lines_of X) ≡ None → length X ≤ most_octets
+        → ¬ Rose (S.faults input.old) (S.faults input.new)
+        → ¬ Rose (K.faults output.old) (K.faults output.new)
         → (result ≡ AuditStatus.Done) ⊎ (result ≡ AuditStatus.OutOfMemory) }
 {
     let Ok(work) = start_replay(alloc, random) else {
@@ -53,11 +56,14 @@ fn check<S: Source, K: Sink>(
     ensures begun { result ≢ AuditStatus.Usage }
     ensures checks { (X : List ℕ) → S.left input.old ≡ Some X
         → AuditsBy result key X (S.left input.new) (K.written output.old) (K.written output.new) }
-    ensures counts { AuditCounts result (S.ends input.old) (S.ends input.new) (S.faults input.old) (S.faults input.new)
+    ensures counts { AuditCounts result (S.ends input.old) (S.ends input.new) (S.faults input.old)
+        (S.faults input.new)
         (K.faults output.old) (K.faults output.new) }
-    ensures complete { (X text : List ℕ) → S.left input.old ≡ Some X → replay_task.stop (lines_of text) ≡ None
+    ensures complete { (X text : List ℕ) → S.left input.old ≡ Some X
+        → replay_task.stop (lines_of text) ≡ None
         → X ≡ journal_text replay_task key (lines_of text) → length X ≤ most_octets
-        → ¬ Rose (S.faults input.old) (S.faults input.new) → ¬ Rose (K.faults output.old) (K.faults output.new)
+        → ¬ Rose (S.faults input.old) (S.faults input.new)
+        → ¬ Rose (K.faults output.old) (K.faults output.new)
         → (result ≡ AuditStatus.Done) ⊎ (result ≡ AuditStatus.OutOfMemory) }
 {
     let Ok(work) = start_replay(alloc, random) else {
@@ -80,21 +86,31 @@ pub fn audit<S: Source, K: Sink>(
     output: &mut K,
 ) -> AuditStatus
     ensures usage { result ≡ AuditStatus.Usage → parsed_command words.now ≡ None }
-    ensures refused { parsed_command words.now ≡ None → (result ≡ AuditStatus.Usage) ⊎ (result ≡ AuditStatus.OutOfMemory) }
-    ensures untouched { parsed_command words.now ≡ None → (input.new ≡ input.old) × (output.new ≡ output.old) }
-    ensures writes { (key X : List ℕ) → parsed_command words.now ≡ Some (Write, key) → S.left input.old ≡ Some X
+    ensures refused { parsed_command words.now ≡ None
+        → (result ≡ AuditStatus.Usage) ⊎ (result ≡ AuditStatus.OutOfMemory) }
+    ensures untouched { parsed_command words.now ≡ None
+        → (input.new ≡ input.old) × (output.new ≡ output.old) }
+    ensures writes { (key X : List ℕ) → parsed_command words.now ≡ Some (Write, key)
+        → S.left input.old ≡ Some X
         → WritesBy result key X (S.left input.new) (K.written output.old) (K.written output.new) }
-    ensures write_complete { (key X : List ℕ) → parsed_command words.now ≡ Some (Write, key) → S.left input.old ≡ Some X
+    ensures write_complete { (key X : List ℕ) → parsed_command words.now ≡ Some (Write, key)
+        → S.left input.old ≡ Some X
         → replay_task.stop (lines_of X) ≡ None → length X ≤ most_octets
-        → ¬ Rose (S.faults input.old) (S.faults input.new) → ¬ Rose (K.faults output.old) (K.faults output.new)
+        → ¬ Rose (S.faults input.old) (S.faults input.new)
+        → ¬ Rose (K.faults output.old) (K.faults output.new)
         → (result ≡ AuditStatus.Done) ⊎ (result ≡ AuditStatus.OutOfMemory) }
-    ensures checks { (key X : List ℕ) → parsed_command words.now ≡ Some (Check, key) → S.left input.old ≡ Some X
+    ensures checks { (key X : List ℕ) → parsed_command words.now ≡ Some (Check, key)
+        → S.left input.old ≡ Some X
         → AuditsBy result key X (S.left input.new) (K.written output.old) (K.written output.new) }
-    ensures check_complete { (key X text : List ℕ) → parsed_command words.now ≡ Some (Check, key) → S.left input.old ≡ Some X
-        → replay_task.stop (lines_of text) ≡ None → X ≡ journal_text replay_task key (lines_of text) → length X ≤ most_octets
-        → ¬ Rose (S.faults input.old) (S.faults input.new) → ¬ Rose (K.faults output.old) (K.faults output.new)
+    ensures check_complete { (key X text : List ℕ) → parsed_command words.now ≡ Some (Check, key)
+        → S.left input.old ≡ Some X
+        → replay_task.stop (lines_of text) ≡ None → X ≡ journal_text replay_task key (lines_of text)
+        → length X ≤ most_octets
+        → ¬ Rose (S.faults input.old) (S.faults input.new)
+        → ¬ Rose (K.faults output.old) (K.faults output.new)
         → (result ≡ AuditStatus.Done) ⊎ (result ≡ AuditStatus.OutOfMemory) }
-    ensures counts { AuditCounts result (S.ends input.old) (S.ends input.new) (S.faults input.old) (S.faults input.new)
+    ensures counts { AuditCounts result (S.ends input.old) (S.ends input.new) (S.faults input.old)
+        (S.faults input.new)
         (K.faults output.old) (K.faults output.new) }
 {
     let [word, key] = words else {

@@ -237,7 +237,8 @@ fn server_command(
     port: &str,
     millis: &str,
 ) -> Option<Command>
-    ensures { result ≡ server_by_words word.now address.now auth.now acct.now peer.now port.now millis.now }
+    ensures { result
+        ≡ server_by_words word.now address.now auth.now acct.now peer.now port.now millis.now }
 {
     let address = read_address(address.as_bytes())?;
     let auth = port_in(auth)?;

@@ -95,7 +95,8 @@ fn count_bucket(
     bound: u64,
     bound_name: &str,
 ) -> Result<(), NoMemory>
-    ensures { OnOk result (counts.new ≡ added counts.old (specs.bucket_hit command time place bound bound_name.now)) }
+    ensures { OnOk result
+        (counts.new ≡ added counts.old (specs.bucket_hit command time place bound bound_name.now)) }
 {
     let order = Order {
         metric: BUCKETS,
@@ -127,7 +128,8 @@ fn count_short_buckets(
     command: u32,
     time: u64,
 ) -> Result<(), NoMemory>
-    ensures { OnOk result (counts.new ≡ with_hits counts.old (specs.short_bucket_hits command time)) }
+    ensures { OnOk result
+        (counts.new ≡ with_hits counts.old (specs.short_bucket_hits command time)) }
 {
     count_bucket(alloc, counts, command, time, 0, 1, "0.001")?;
     count_bucket(alloc, counts, command, time, 1, 5, "0.005")?;
@@ -143,7 +145,8 @@ fn count_long_buckets(
     command: u32,
     time: u64,
 ) -> Result<(), NoMemory>
-    ensures { OnOk result (counts.new ≡ with_hits counts.old (specs.long_bucket_hits command time)) }
+    ensures { OnOk result
+        (counts.new ≡ with_hits counts.old (specs.long_bucket_hits command time)) }
 {
     count_bucket(alloc, counts, command, time, 5, 500, "0.5")?;
     count_bucket(alloc, counts, command, time, 6, 1_000, "1")?;

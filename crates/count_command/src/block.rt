@@ -130,7 +130,8 @@ fn push_family(
     metric: u32,
     counts: &[Count],
 ) -> Result<(), NoMemory>
-    ensures { OnOk result (text.new.items ≡ text.old.items ++ specs.family head.now metric counts.now) }
+    ensures { OnOk result
+        (text.new.items ≡ text.old.items ++ specs.family head.now metric counts.now) }
 {
     text.extend_from_slice(head.as_bytes())?;
     push_lines(alloc, text, metric, counts)

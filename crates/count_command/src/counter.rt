@@ -45,7 +45,8 @@ const NO_GAUGES: Gauges = Gauges {
 
 /// What stands now in a core.
 fn gauges_of(core: &Core, moment: u64) -> Gauges
-    ensures { (H : List Event) → StandsFor core.now H → moment ≡ core.now.moment → result ≡ gauges_at core.now.config (past core.now.config H) }
+    ensures { (H : List Event) → StandsFor core.now H → moment ≡ core.now.moment
+        → result ≡ gauges_at core.now.config (past core.now.config H) }
 {
     Gauges {
         link_up: u64::from(matches!(core.phase(), Phase::Serving)),
@@ -86,7 +87,8 @@ impl Counter {
 
     /// The block that stands before an event of this moment, where one is due, else nothing.
     fn due(&self, alloc: Global, core: &Core, moment: u64) -> Result<Vec<u8>, NoMemory>
-        ensures { (H : List Event) → StandsFor core.now H → self.now.moment ≡ core.now.moment → IfOk result (λ text. text.items
+        ensures { (H : List Event) → StandsFor core.now H → self.now.moment ≡ core.now.moment
+            → IfOk result (λ text. text.items
             ≡ due_text self.now core.now.config (past core.now.config H) moment) }
     {
         if self.is_due(moment) {
@@ -110,7 +112,8 @@ impl Counter {
         requires { length config.now.clients ≤ 1024 }
         ensures millis { self.new.millis ≡ self.old.millis }
         ensures counts { OnOk result (self.new.counts ≡ with_hits self.old.counts
-            (input_hits config.now input.now ++ flat_map (output_hits config.now input.now) outputs.now ++ answer_hits moment answered)) }
+            (input_hits config.now input.now ++ flat_map (output_hits config.now input.now)
+            outputs.now ++ answer_hits moment answered)) }
         ensures first { OnOk result (self.new.first ≡ Some (unwrap_or self.old.first moment)) }
         ensures moment { OnOk result (self.new.moment ≡ moment) }
     {

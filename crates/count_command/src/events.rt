@@ -98,7 +98,8 @@ fn count_request(
     client: NamedClient<'_>,
     via: Via,
 ) -> Result<(), NoMemory>
-    ensures { OnOk result (counts.new ≡ added counts.old (specs.request_hit (client.entry.number, client.entry.name.now) via)) }
+    ensures { OnOk result (counts.new
+        ≡ added counts.old (specs.request_hit (client.entry.number, client.entry.name.now) via)) }
 {
     let order = Order {
         metric: REQUESTS,
@@ -129,7 +130,8 @@ pub(crate) fn count_input(
     input: &Input,
 ) -> Result<(), NoMemory>
     requires { length config.now.clients ≤ 1024 }
-    ensures { OnOk result (counts.new ≡ with_hits counts.old (specs.input_hits config.now input.now)) }
+    ensures { OnOk result
+        (counts.new ≡ with_hits counts.old (specs.input_hits config.now input.now)) }
 {
     match input {
         Input::Datagram { via, address, .. } => {
@@ -165,7 +167,8 @@ fn count_reply(
     code: u8,
     repeated: bool,
 ) -> Result<(), NoMemory>
-    ensures { OnOk result (counts.new ≡ added counts.old (specs.reply_hit (client.entry.number, client.entry.name.now) code repeated)) }
+    ensures { OnOk result (counts.new ≡ added counts.old
+        (specs.reply_hit (client.entry.number, client.entry.name.now) code repeated)) }
 {
     let order = reply_order(client.number, code, repeated);
     if counts.raise(order, 1) {
@@ -195,7 +198,8 @@ fn count_drop(
     client: NamedClient<'_>,
     reason: Reason,
 ) -> Result<(), NoMemory>
-    ensures { OnOk result (counts.new ≡ added counts.old (specs.drop_hit (client.entry.number, client.entry.name.now) reason)) }
+    ensures { OnOk result (counts.new
+        ≡ added counts.old (specs.drop_hit (client.entry.number, client.entry.name.now) reason)) }
 {
     let order = Order {
         metric: DROPS,
@@ -233,7 +237,8 @@ fn send_kind(again: bool) -> &'static str
 
 /// The order of the lines of messages.
 fn send_order(command: u32, request: bool, again: bool) -> Order
-    ensures { result ≡ specs.ordered SENDS command (specs.number_if request) (specs.number_if again) }
+    ensures { result
+        ≡ specs.ordered SENDS command (specs.number_if request) (specs.number_if again) }
 {
     Order {
         metric: SENDS,
@@ -302,7 +307,8 @@ fn count_close(alloc: Global, counts: &mut Tally, cause: LinkCause) -> Result<()
 
 /// Counts what a message of the link is.
 fn count_message(alloc: Global, counts: &mut Tally, octets: &[u8]) -> Result<(), NoMemory>
-    ensures { OnOk result (counts.new ≡ with_hits counts.old (specs.send_hits (read_message octets.now))) }
+    ensures { OnOk result
+        (counts.new ≡ with_hits counts.old (specs.send_hits (read_message octets.now))) }
 {
     match parse(octets) {
         Ok(message) => count_send(alloc, counts, &message.header),
@@ -319,7 +325,8 @@ fn count_output(
     output: &Output,
 ) -> Result<(), NoMemory>
     requires { length config.now.clients ≤ 1024 }
-    ensures { OnOk result (counts.new ≡ with_hits counts.old (specs.output_hits config.now input.now output.now)) }
+    ensures { OnOk result
+        (counts.new ≡ with_hits counts.old (specs.output_hits config.now input.now output.now)) }
 {
     match output {
         Output::Reply {
@@ -346,7 +353,8 @@ pub(crate) fn count_outputs(
     outputs: &[Output],
 ) -> Result<(), NoMemory>
     requires { length config.now.clients ≤ 1024 }
-    ensures { OnOk result (counts.new ≡ with_hits counts.old (flat_map (specs.output_hits config.now input.now) outputs.now)) }
+    ensures { OnOk result (counts.new
+        ≡ with_hits counts.old (flat_map (specs.output_hits config.now input.now) outputs.now)) }
 {
     for output in outputs {
         count_output(alloc, counts, config, input, output)?;

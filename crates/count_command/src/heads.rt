@@ -15,7 +15,8 @@ pub(crate) struct Label<'a> {
 
 /// Appends a label behind this sign.
 fn push_label(text: &mut Vec<u8>, sign: u8, label: Label<'_>) -> Result<(), NoMemory>
-    ensures { OnOk result (text.new.items ≡ text.old.items ++ specs.label sign label.entry.name.now label.entry.value.now) }
+    ensures { OnOk result (text.new.items
+        ≡ text.old.items ++ specs.label sign label.entry.name.now label.entry.value.now) }
 {
     text.push(sign)?;
     text.extend_from_slice(label.name.as_bytes())?;
@@ -27,7 +28,8 @@ fn push_label(text: &mut Vec<u8>, sign: u8, label: Label<'_>) -> Result<(), NoMe
 
 /// A metric with its first label.
 fn begin(alloc: Global, metric: &str, label: Label<'_>) -> Result<Vec<u8>, NoMemory>
-    ensures { IfOk result (λ text. text.items ≡ metric.now ++ specs.label 123 label.entry.name.now label.entry.value.now) }
+    ensures { IfOk result (λ text. text.items
+        ≡ metric.now ++ specs.label 123 label.entry.name.now label.entry.value.now) }
 {
     let mut text = Vec::new(alloc);
     text.extend_from_slice(metric.as_bytes())?;
@@ -37,7 +39,8 @@ fn begin(alloc: Global, metric: &str, label: Label<'_>) -> Result<Vec<u8>, NoMem
 
 /// A metric with one label.
 pub(crate) fn with_one(alloc: Global, metric: &str, label: Label<'_>) -> Result<Octets, NoMemory>
-    ensures { IfOk result (λ head. head ≡ specs.with_one metric.now label.entry.name.now label.entry.value.now) }
+    ensures { IfOk result
+        (λ head. head ≡ specs.with_one metric.now label.entry.name.now label.entry.value.now) }
 {
     let mut text = begin(alloc, metric, label)?;
     text.push(b'}')?;
@@ -51,7 +54,8 @@ pub(crate) fn with_two(
     first: Label<'_>,
     second: Label<'_>,
 ) -> Result<Octets, NoMemory>
-    ensures { IfOk result (λ head. head ≡ specs.with_two metric.now first.entry.name.now first.entry.value.now second.entry.name.now second.entry.value.now) }
+    ensures { IfOk result (λ head. head ≡ specs.with_two metric.now first.entry.name.now
+        first.entry.value.now second.entry.name.now second.entry.value.now) }
 {
     let mut text = begin(alloc, metric, first)?;
     push_label(&mut text, b',', second)?;
@@ -67,7 +71,8 @@ pub(crate) fn with_three(
     second: Label<'_>,
     third: Label<'_>,
 ) -> Result<Octets, NoMemory>
-    ensures { IfOk result (λ head. head ≡ specs.with_three metric.now first.entry.name.now first.entry.value.now second.entry.name.now second.entry.value.now
+    ensures { IfOk result (λ head. head ≡ specs.with_three metric.now first.entry.name.now
+        first.entry.value.now second.entry.name.now second.entry.value.now
         third.entry.name.now third.entry.value.now) }
 {
     let mut text = begin(alloc, metric, first)?;

@@ -95,7 +95,8 @@ impl Tally {
 
     /// Adds to the count of this order, where there is one.
     pub fn raise(&mut self, order: Order, amount: u64) -> bool
-        ensures raised { result ≡ true → (head : List ℕ) → self.new ≡ specs.added self.old (record { order = order; head = head; amount = amount }) }
+        ensures raised { result ≡ true → (head : List ℕ) → self.new
+            ≡ specs.added self.old (record { order = order; head = head; amount = amount }) }
         ensures unknown { result ≡ false → specs.stands order self.old ≡ false }
         ensures same { result ≡ false → self.new ≡ self.old }
     {
@@ -112,7 +113,8 @@ impl Tally {
     /// Puts a count where none of its order stands.
     pub fn insert(&mut self, order: Order, head: Octets, amount: u64) -> Result<(), NoMemory>
         requires { specs.stands order self.old ≡ false }
-        ensures { OnOk result (self.new ≡ specs.added self.old (record { order = order; head = head; amount = amount })) }
+        ensures { OnOk result (self.new
+            ≡ specs.added self.old (record { order = order; head = head; amount = amount })) }
     {
         let place = self.place_of(order);
         self.counts.insert(

@@ -60,7 +60,8 @@ fn append_zeros(octets: &mut Vec<u8>, count: usize)
 /// Appends an AVP, whose length field is given, with zeros as padding.
 #[tactic(auto, using(crate::proofs::WriterLemmas::avp_room))]
 pub(crate) fn append_avp(octets: &mut Vec<u8>, avp: &Avp<'_>, counted: u32)
-    requires room { vec_len octets.old + length (avp_text (avp_view avp.now)) ≤ vec_capacity octets.old }
+    requires room { vec_len octets.old + length (avp_text (avp_view avp.now))
+        ≤ vec_capacity octets.old }
     requires counted { counted ≡ avp_length (avp_view avp.now) }
     requires small { counted < 2 ^ 24 }
     ensures { octets.new.items ≡ octets.old.items ++ avp_text (avp_view avp.now) }
@@ -78,7 +79,8 @@ pub(crate) fn append_avp(octets: &mut Vec<u8>, avp: &Avp<'_>, counted: u32)
 pub(crate) fn overwrite_u24(octets: &mut Vec<u8>, place: usize, value: u32)
     requires inside { place + 3 ≤ vec_len octets.old }
     requires small { value < 2 ^ 24 }
-    ensures { octets.new.items ≡ take place octets.old.items ++ u24 value ++ drop (place + 3) octets.old.items }
+    ensures { octets.new.items
+        ≡ take place octets.old.items ++ u24 value ++ drop (place + 3) octets.old.items }
 {
     put_u24(octets.as_mut_slice(), place, value);
 }

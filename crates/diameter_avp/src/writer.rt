@@ -94,9 +94,11 @@ impl AvpWriter {
         mandatory: bool,
         body: &[u8],
     ) -> Result<(), WriteFault>
-        ensures ok { OnOk result (self.new ≡ with_avp self.old (made code vendor mandatory body.now)) }
+        ensures ok { OnOk result
+            (self.new ≡ with_avp self.old (made code vendor mandatory body.now)) }
         ensures too_long { (result ≡ Err WriteFault.TooLong)
-            ↔ (65516 < length (avps_text (with_avp self.old (made code vendor mandatory body.now)).list)) }
+            ↔ (65516
+            < length (avps_text (with_avp self.old (made code vendor mandatory body.now)).list)) }
         ensures err { OnErr result (self.new ≡ self.old) }
     {
         let avp = make_avp(code, vendor, mandatory, body);

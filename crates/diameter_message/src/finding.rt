@@ -17,7 +17,8 @@ pub fn has_code(avp: &Avp<'_>, code: u32) -> bool
 
 fn has_size(avp: &Avp<'_>, code: u32, least: usize, most: usize) -> bool
     ensures test { result ≡ specs.has_size code least most (avp_view avp.now) }
-    ensures fits { IsTrue result → (least ≤ length avp.now.body.now) × (length avp.now.body.now ≤ most) }
+    ensures fits { IsTrue result
+        → (least ≤ length avp.now.body.now) × (length avp.now.body.now ≤ most) }
 {
     has_code(avp, code) && least <= avp.body.len() && avp.body.len() <= most
 }
@@ -36,7 +37,8 @@ pub fn number_of(avp: &Avp<'_>, code: u32) -> Option<u32>
 /// The first AVP of this code with V clear and a body of `least` to `most` octets, of those that stand before the first
 /// fault.
 pub fn find_avp(octets: &[u8], code: u32, least: usize, most: usize) -> Option<Avp<'_>>
-    ensures found { option_map avp_view result ≡ find (specs.has_size code least most) (readable_avps octets.now) }
+    ensures found { option_map avp_view result
+        ≡ find (specs.has_size code least most) (readable_avps octets.now) }
     ensures fits { IfSome result (λ a. (least ≤ length a.body.now) × (length a.body.now ≤ most)) }
 {
     for item in avps(octets) {

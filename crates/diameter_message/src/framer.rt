@@ -155,7 +155,8 @@ impl Framer {
         ensures ok { IfOk result (λ next. self.new ≡ without next self.old) }
         ensures stands { (octets : List ℕ) (given : List (List ℕ)) → StandsFor self.old octets given
             → IfOk result (λ next. StandsFor self.new octets (given_with next given)) }
-        ensures stream { (octets rest : List ℕ) (given messages : List (List ℕ)) (fault : Option FrameFault)
+        ensures stream { (octets rest : List ℕ) (given messages : List (List ℕ))
+            (fault : Option FrameFault)
             → StandsFor self.old octets given → Stream octets messages rest fault
             → IfOk result (λ next. IsNext next given messages fault) }
         ensures err { OnErr result (self.new ≡ self.old) }

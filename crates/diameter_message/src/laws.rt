@@ -8,10 +8,13 @@ ghost use Rattle.diameter_message.specs.Framing.{FramerParts, StandsFor, message
 
 /// Octets are cut in one way.
 pub fn one_stream()
-    ensures cut { (octets : List ℕ) → Stream octets (messages_of octets) (rest_of octets) (stream_fault octets) }
-    ensures only { (octets : List ℕ) (messages : List (List ℕ)) (rest : List ℕ) (fault : Option FrameFault)
+    ensures cut { (octets : List ℕ)
+        → Stream octets (messages_of octets) (rest_of octets) (stream_fault octets) }
+    ensures only { (octets : List ℕ) (messages : List (List ℕ)) (rest : List ℕ)
+        (fault : Option FrameFault)
         → Stream octets messages rest fault
-        → (messages_of octets ≡ messages) × (rest_of octets ≡ rest) × (stream_fault octets ≡ fault) }
+        → (messages_of octets ≡ messages) × (rest_of octets ≡ rest)
+        × (stream_fault octets ≡ fault) }
 {}
 
 /// What a framer has given is the beginning of what its stream holds.

@@ -22,7 +22,8 @@ pub fn parse(octets: &[u8]) -> Result<Message<'_>, MessageFault>
     ensures exact { parsed result ≡ read_message octets.now }
     ensures found { IfOk result (λ message. IsMessage octets.now message.header message.avps.now) }
     ensures only { (header : Header) (avps : List ℕ)
-        → IsMessage octets.now header avps → parsed result ≡ Ok (record { header = header; avps = avps }) }
+        → IsMessage octets.now header avps
+        → parsed result ≡ Ok (record { header = header; avps = avps }) }
 {
     read(octets)
 }

@@ -20,8 +20,10 @@ impl MessageWriter {
         mandatory: bool,
         body: &[u8],
     ) -> Result<(), NoMemory>
-        requires { length (avps_text (self.old.avps.list ++ made code vendor mandatory body.now ∷ [])) ≤ 65516 }
-        ensures ok { OnOk result (self.new ≡ with_avps self.old (made code vendor mandatory body.now ∷ [])) }
+        requires { length
+            (avps_text (self.old.avps.list ++ made code vendor mandatory body.now ∷ [])) ≤ 65516 }
+        ensures ok { OnOk result
+            (self.new ≡ with_avps self.old (made code vendor mandatory body.now ∷ [])) }
         ensures err { OnErr result (self.new ≡ self.old) }
     {
         match self.put(code, vendor, mandatory, body) {
@@ -34,7 +36,8 @@ impl MessageWriter {
     /// Puts an AVP with M set and V clear: a header of eight octets, the body, and up to three octets of padding.
     pub fn put_plain(&mut self, code: u32, body: &[u8]) -> Result<(), NoMemory>
         requires { list_length self.old + length body.now + 11 ≤ 65516 }
-        ensures ok { OnOk result (Puts self.old self.new (plain_avp code body.now ∷ []) (length body.now + 11)) }
+        ensures ok { OnOk result
+            (Puts self.old self.new (plain_avp code body.now ∷ []) (length body.now + 11)) }
         ensures err { OnErr result (self.new ≡ self.old) }
     {
         self.put_with_room(code, None, true, body)
@@ -52,7 +55,8 @@ impl MessageWriter {
     /// Puts Origin-Host and Origin-Realm. After want of memory Origin-Host alone may have been put.
     pub fn put_origin(&mut self, host: &[u8], realm: &[u8]) -> Result<(), NoMemory>
         requires { list_length self.old + length host.now + length realm.now + 22 ≤ 65516 }
-        ensures ok { OnOk result (Puts self.old self.new (origin_avps host.now realm.now) (length host.now + length realm.now + 22)) }
+        ensures ok { OnOk result (Puts self.old self.new (origin_avps host.now realm.now)
+            (length host.now + length realm.now + 22)) }
         ensures err { OnErr result (PutsPart self.old self.new (origin_avps host.now realm.now)) }
     {
         self.put_plain(ORIGIN_HOST, host)?;

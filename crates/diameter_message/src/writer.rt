@@ -74,9 +74,11 @@ impl MessageWriter {
         mandatory: bool,
         body: &[u8],
     ) -> Result<(), WriteFault>
-        ensures ok { OnOk result (self.new ≡ record self.old { avps = with_avp self.old.avps (made code vendor mandatory body.now) }) }
+        ensures ok { OnOk result (self.new ≡ record self.old
+            { avps = with_avp self.old.avps (made code vendor mandatory body.now) }) }
         ensures too_long { (result ≡ Err WriteFault.TooLong)
-            ↔ (65516 < length (avps_text (with_avp self.old.avps (made code vendor mandatory body.now)).list)) }
+            ↔ (65516 < length
+            (avps_text (with_avp self.old.avps (made code vendor mandatory body.now)).list)) }
         ensures err { OnErr result (self.new ≡ self.old) }
     {
         self.writer.put(code, vendor, mandatory, body)

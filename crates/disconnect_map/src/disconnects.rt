@@ -27,7 +27,8 @@ const ACCT_SESSION_ID: u8 = 44;
 fn put(request: &mut Reply, code: u8, value: &[u8])
     requires short { length value.now ≤ 253 }
     requires room { reply_length request.old + 2 + length value.now ≤ 4096 }
-    ensures { request.new ≡ record request.old { attributes = request.old.attributes ++ attribute code value.now ∷ [] } }
+    ensures { request.new ≡ record request.old
+        { attributes = request.old.attributes ++ attribute code value.now ∷ [] } }
 {
     request.push(code, value).unwrap();
 }
@@ -36,7 +37,8 @@ fn put(request: &mut Reply, code: u8, value: &[u8])
 fn put_user(request: &mut Reply, user: Option<&[u8]>)
     requires short { IfSome (option_copied user) (λ user. length user ≤ 253) }
     requires room { reply_length request.old + 255 ≤ 4096 }
-    ensures { request.new ≡ record request.old { attributes = request.old.attributes ++ user_attributes (option_copied user.entry) } }
+    ensures { request.new ≡ record request.old
+        { attributes = request.old.attributes ++ user_attributes (option_copied user.entry) } }
 {
     if let Some(user) = user {
         put(request, USER_NAME, user);
@@ -54,9 +56,11 @@ pub fn disconnect(
 ) -> Result<Octets, NoMemory>
     requires user { IfSome (option_copied user) (λ user. length user ≤ 253) }
     requires acct { length acct.now ≤ 253 }
-    ensures exact { IfOk result (λ o. o ≡ disconnect_text client.now id (option_copied user.entry) acct.now) }
+    ensures exact { IfOk result
+        (λ o. o ≡ disconnect_text client.now id (option_copied user.entry) acct.now) }
     // It is a packet of these parts, and its authenticator is that of an Accounting-Request.
-    ensures packet { IfOk result (λ o. (a : List ℕ) × IsPacket o (disconnect_parts client.now id (option_copied user.entry) acct.now a)) }
+    ensures packet { IfOk result (λ o. (a : List ℕ)
+        × IsPacket o (disconnect_parts client.now id (option_copied user.entry) acct.now a)) }
     ensures authentic { IfOk result (λ o. IsAccountingRight client.now.secret o) }
 {
     // A Request Authenticator is made as the Response Authenticator to sixteen zeros.

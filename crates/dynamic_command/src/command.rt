@@ -26,11 +26,15 @@ pub fn dynamic<S: Source, K: Sink>(
     ensures begun { result ≢ Status.Usage }
     ensures known { IsLinesEnd result }
     ensures ends { (X : List ℕ) → S.left input.old ≡ Some X
-        → EndsBy dynamic_task result X (S.left input.new) (K.written output.old) (K.written output.new) }
-    ensures counts { EndsCounts result (S.ends input.old) (S.ends input.new) (S.faults input.old) (S.faults input.new)
+        → EndsBy dynamic_task result X (S.left input.new) (K.written output.old)
+        (K.written output.new) }
+    ensures counts { EndsCounts result (S.ends input.old) (S.ends input.new) (S.faults input.old)
+        (S.faults input.new)
         (K.faults output.old) (K.faults output.new) }
-    ensures complete { (X : List ℕ) → S.left input.old ≡ Some X → dynamic_task.stop (lines_of X) ≡ None → length X ≤ most_octets
-        → ¬ Rose (S.faults input.old) (S.faults input.new) → ¬ Rose (K.faults output.old) (K.faults output.new)
+    ensures complete { (X : List ℕ) → S.left input.old ≡ Some X
+        → dynamic_task.stop (lines_of X) ≡ None → length X ≤ most_octets
+        → ¬ Rose (S.faults input.old) (S.faults input.new)
+        → ¬ Rose (K.faults output.old) (K.faults output.new)
         → (result ≡ Status.Done) ⊎ (result ≡ Status.OutOfMemory) }
 {
     follow_transcript(alloc, BookSession::new(random), input, output)

@@ -48,8 +48,10 @@ fn write_output<K: Sink>(
     output: &BookOutput,
     sink: &mut K,
 ) -> Result<(), Status>
-    ensures written { OnOk result (Appends (K.written sink.old) (K.written sink.new) (book_line number output.now)) }
-    ensures part { AppendsPrefix (K.written sink.old) (K.written sink.new) (book_line number output.now) }
+    ensures written { OnOk result
+        (Appends (K.written sink.old) (K.written sink.new) (book_line number output.now)) }
+    ensures part { AppendsPrefix (K.written sink.old) (K.written sink.new)
+        (book_line number output.now) }
     ensures fault { result ≡ Err Status.WriteFault → Rose (K.faults sink.old) (K.faults sink.new) }
     ensures failure { IfErr result IsFailure }
     ensures faults_stay { K.faults sink.old ≤ K.faults sink.new }
@@ -68,8 +70,10 @@ pub(crate) fn write_outputs<K: Sink>(
     sink: &mut K,
 ) -> Result<(), Status>
     ensures written { OnOk result
-        (Appends (K.written sink.old) (K.written sink.new) (flat_map (book_line number) outputs.now)) }
-    ensures part { AppendsPrefix (K.written sink.old) (K.written sink.new) (flat_map (book_line number) outputs.now) }
+        (Appends (K.written sink.old) (K.written sink.new)
+        (flat_map (book_line number) outputs.now)) }
+    ensures part { AppendsPrefix (K.written sink.old) (K.written sink.new)
+        (flat_map (book_line number) outputs.now) }
     ensures fault { result ≡ Err Status.WriteFault → Rose (K.faults sink.old) (K.faults sink.new) }
     ensures failure { IfErr result IsFailure }
     ensures faults_stay { K.faults sink.old ≤ K.faults sink.new }

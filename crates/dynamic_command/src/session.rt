@@ -46,7 +46,8 @@ fn run_input<K: Sink>(
     sink: &mut K,
 ) -> Result<(), Status>
     ensures runs { (config : Config) (ps : List BookPlace) → RunsAt book.old counts.old config ps
-        → OnOk result (RunsOn book.new counts.new config ps number (event_at moment input.now) (K.written sink.old) (K.written sink.new)) }
+        → OnOk result (RunsOn book.new counts.new config ps number (event_at moment input.now)
+        (K.written sink.old) (K.written sink.new)) }
     ensures part { (config : Config) (ps : List BookPlace) → RunsAt book.old counts.old config ps
         → AppendsPrefix (K.written sink.old) (K.written sink.new)
         (flat_map (book_line number) (place config ps (event_at moment input.now)).outputs) }
@@ -78,10 +79,12 @@ fn run_core_input<K: Sink>(
     sink: &mut K,
 ) -> Result<(), Status>
     ensures runs { (config : Config) (ps : List BookPlace) → RunsAt book.old counts.old config ps
-        → OnOk result (RunsOn book.new counts.new config ps number (event_at moment (book_input.Core input)) (K.written sink.old) (K.written sink.new)) }
+        → OnOk result (RunsOn book.new counts.new config ps number
+        (event_at moment (book_input.Core input)) (K.written sink.old) (K.written sink.new)) }
     ensures part { (config : Config) (ps : List BookPlace) → RunsAt book.old counts.old config ps
         → AppendsPrefix (K.written sink.old) (K.written sink.new)
-        (flat_map (book_line number) (place config ps (event_at moment (book_input.Core input))).outputs) }
+        (flat_map (book_line number)
+        (place config ps (event_at moment (book_input.Core input))).outputs) }
     ensures fault { result ≡ Err Status.WriteFault → Rose (K.faults sink.old) (K.faults sink.new) }
     ensures failure { IfErr result IsFailure }
     ensures faults_stay { K.faults sink.old ≤ K.faults sink.new }
@@ -108,9 +111,11 @@ fn run_inputs<K: Sink>(
     sink: &mut K,
 ) -> Result<(), Status>
     ensures runs { (config : Config) (ps : List BookPlace) → RunsAt book.old counts.old config ps
-        → OnOk result (Ran book.new counts.new config ps number moment (map book_input.Core inputs.items) (K.written sink.old) (K.written sink.new)) }
+        → OnOk result (Ran book.new counts.new config ps number moment
+        (map book_input.Core inputs.items) (K.written sink.old) (K.written sink.new)) }
     ensures part { (config : Config) (ps : List BookPlace) → RunsAt book.old counts.old config ps
-        → AppendsPrefix (K.written sink.old) (K.written sink.new) (inputs_text number config ps moment (map book_input.Core inputs.items)) }
+        → AppendsPrefix (K.written sink.old) (K.written sink.new)
+        (inputs_text number config ps moment (map book_input.Core inputs.items)) }
     ensures fault { result ≡ Err Status.WriteFault → Rose (K.faults sink.old) (K.faults sink.new) }
     ensures failure { IfErr result IsFailure }
     ensures faults_stay { K.faults sink.old ≤ K.faults sink.new }
@@ -144,7 +149,8 @@ impl BookSession {
 
     /// The settings that an agent line tells.
     fn tell(&mut self, config: Config)
-        ensures { (stage : Stage) → IsAt self.old stage → IsAt self.new (with_settings stage config) }
+        ensures { (stage : Stage) → IsAt self.old stage
+            → IsAt self.new (with_settings stage config) }
     {
         if self.book.is_none() {
             self.config = Some(config);
@@ -153,8 +159,10 @@ impl BookSession {
 
     /// A further client of the settings.
     fn join(&mut self, client: Client) -> Result<(), Status>
-        requires { IfSome self.old.config (λ config. find_address client.address config.clients ≡ None) }
-        ensures joins { (stage : Stage) → IsAt self.old stage → OnOk result (IsAt self.new (joined stage client)) }
+        requires { IfSome self.old.config
+            (λ config. find_address client.address config.clients ≡ None) }
+        ensures joins { (stage : Stage) → IsAt self.old stage
+            → OnOk result (IsAt self.new (joined stage client)) }
         ensures memory { IfErr result (λ status. status ≡ Status.OutOfMemory) }
     {
         join_client(&mut self.config, client)
@@ -163,7 +171,8 @@ impl BookSession {
     /// Makes the book and its core at the first event.
     fn begin(&mut self, alloc: Global) -> Result<(), Status>
         requires { IfSome self.old.config InLimits }
-        ensures begins { (stage : Stage) → IsAt self.old stage → OnOk result (IsAt self.new (begun stage)) }
+        ensures begins { (stage : Stage) → IsAt self.old stage
+            → OnOk result (IsAt self.new (begun stage)) }
         ensures memory { IfErr result (λ status. status ≡ Status.OutOfMemory) }
     {
         match self.config.take() {
@@ -188,10 +197,13 @@ impl BookSession {
         sink: &mut K,
     ) -> Result<(), Status>
         ensures runs { (stage : Stage) → IsAt self.old stage
-            → OnOk result (RunsFrom self.new stage number moment (map book_input.Core inputs.items) (K.written sink.old) (K.written sink.new)) }
+            → OnOk result (RunsFrom self.new stage number moment (map book_input.Core inputs.items)
+            (K.written sink.old) (K.written sink.new)) }
         ensures part { (stage : Stage) → IsAt self.old stage
-            → AppendsPrefix (K.written sink.old) (K.written sink.new) (ran_text number stage moment (map book_input.Core inputs.items)) }
-        ensures fault { result ≡ Err Status.WriteFault → Rose (K.faults sink.old) (K.faults sink.new) }
+            → AppendsPrefix (K.written sink.old) (K.written sink.new)
+            (ran_text number stage moment (map book_input.Core inputs.items)) }
+        ensures fault { result ≡ Err Status.WriteFault
+            → Rose (K.faults sink.old) (K.faults sink.new) }
         ensures failure { IfErr result IsFailure }
         ensures faults_stay { K.faults sink.old ≤ K.faults sink.new }
     {
@@ -211,10 +223,13 @@ impl BookSession {
         sink: &mut K,
     ) -> Result<(), Status>
         ensures runs { (stage : Stage) → IsAt self.old stage
-            → OnOk result (RunsFrom self.new stage number moment (input ∷ []) (K.written sink.old) (K.written sink.new)) }
+            → OnOk result (RunsFrom self.new stage number moment (input ∷ []) (K.written sink.old)
+            (K.written sink.new)) }
         ensures part { (stage : Stage) → IsAt self.old stage
-            → AppendsPrefix (K.written sink.old) (K.written sink.new) (ran_text number stage moment (input ∷ [])) }
-        ensures fault { result ≡ Err Status.WriteFault → Rose (K.faults sink.old) (K.faults sink.new) }
+            → AppendsPrefix (K.written sink.old) (K.written sink.new)
+            (ran_text number stage moment (input ∷ [])) }
+        ensures fault { result ≡ Err Status.WriteFault
+            → Rose (K.faults sink.old) (K.faults sink.new) }
         ensures failure { IfErr result IsFailure }
         ensures faults_stay { K.faults sink.old ≤ K.faults sink.new }
     {
@@ -236,7 +251,8 @@ impl BookSession {
             → OnOk result (Follows self.new stage line (K.written sink.old) (K.written sink.new)) }
         ensures part { (stage : Stage) → IsAt self.old stage
             → AppendsPrefix (K.written sink.old) (K.written sink.new) (text_of stage line) }
-        ensures fault { result ≡ Err Status.WriteFault → Rose (K.faults sink.old) (K.faults sink.new) }
+        ensures fault { result ≡ Err Status.WriteFault
+            → Rose (K.faults sink.old) (K.faults sink.new) }
         ensures failure { IfErr result IsFailure }
         ensures faults_stay { K.faults sink.old ≤ K.faults sink.new }
     {

@@ -32,8 +32,10 @@ pub(crate) fn put_payload(
     writer: &mut MessageWriter,
     packet: &Packet<'_>,
 ) -> Result<(), NoMemory>
-    requires { length (avps_text (writer.old.avps.list ++ plain_avp 462 (specs.eap_packet packet.now.attributes) ∷ [])) ≤ 65516 }
-    ensures { OnOk result (writer.new ≡ with_avps writer.old (plain_avp 462 (specs.eap_packet packet.now.attributes) ∷ [])) }
+    requires { length (avps_text (writer.old.avps.list
+        ++ plain_avp 462 (specs.eap_packet packet.now.attributes) ∷ [])) ≤ 65516 }
+    ensures { OnOk result (writer.new
+        ≡ with_avps writer.old (plain_avp 462 (specs.eap_packet packet.now.attributes) ∷ [])) }
 {
     let packet = eap_packet(alloc, packet)?;
     writer.put_with_room(EAP_PAYLOAD, None, true, packet.as_slice())

@@ -35,8 +35,10 @@ fn put_piece(
     seen: &mut EapSeen,
 ) -> Result<(), NoMemory>
     requires value { IsTrue (is_good Access (attribute_view attribute.now)) }
-    requires room { length (avps_text (writer.old.avps.list ++ passing.piece_after packet.now seen.old (attribute_view attribute.now))) ≤ 65516 }
-    ensures put { OnOk result (writer.new ≡ with_avps writer.old (passing.piece_after packet.now seen.old (attribute_view attribute.now))) }
+    requires room { length (avps_text (writer.old.avps.list
+        ++ passing.piece_after packet.now seen.old (attribute_view attribute.now))) ≤ 65516 }
+    ensures put { OnOk result (writer.new ≡ with_avps writer.old
+        (passing.piece_after packet.now seen.old (attribute_view attribute.now))) }
     ensures noted { OnOk result (seen.new ≡ passing.noted seen.old (attribute_view attribute.now)) }
 {
     if !is_eap(attribute) {
@@ -86,9 +88,11 @@ pub fn request(
     requires realm { length (route_view route.now).realm ≤ 255 }
     requires host { IfSome (route_view route.now).host (λ host. length host ≤ 255) }
     requires client { ClientInLimits client.now }
-    ensures text { IfOk result (λ o. o ≡ eap_image client.now packet.now (route_view route.now) numbers) }
+    ensures text { IfOk result
+        (λ o. o ≡ eap_image client.now packet.now (route_view route.now) numbers) }
     // It is a message, so it can be sent again.
-    ensures message { IfOk result (λ o. IsMessage o (request_header numbers) (avps_text (request_avps client.now packet.now (route_view route.now)))) }
+    ensures message { IfOk result (λ o. IsMessage o (request_header numbers)
+        (avps_text (request_avps client.now packet.now (route_view route.now)))) }
 {
     let header = Header {
         flags: REQUEST | PROXIABLE,

@@ -87,7 +87,8 @@ impl Position {
 
     /// Where the line after the request stands.
     fn after_request(self) -> Option<Position>
-        ensures { lines_at Request self.number self.left self.drawn ≡ line_of_request self.number ∷ lines_left result }
+        ensures { lines_at Request self.number self.left self.drawn
+            ≡ line_of_request self.number ∷ lines_left result }
     {
         if has_bit(self.drawn, 16) {
             self.at(LoginStage::Repeat)
@@ -98,7 +99,8 @@ impl Position {
 
     /// Where the line after the answer stands.
     fn after_answer(self) -> Option<Position>
-        ensures { lines_at Answer self.number self.left self.drawn ≡ line_of_answer self.number self.drawn ∷ lines_left result }
+        ensures { lines_at Answer self.number self.left self.drawn
+            ≡ line_of_answer self.number self.drawn ∷ lines_left result }
     {
         if has_bit(self.drawn, 18) {
             self.at(LoginStage::LateRepeat)
@@ -109,7 +111,8 @@ impl Position {
 
     /// Where the login after this one begins, None where this is the last one.
     fn next_login(self) -> Option<Position>
-        ensures { lines_left result ≡ logins_from self.left (self.number + 1) (drawn_after self.drawn) }
+        ensures { lines_left result
+            ≡ logins_from self.left (self.number + 1) (drawn_after self.drawn) }
     {
         if self.left == 0 {
             return None;
@@ -178,7 +181,8 @@ impl Generator {
 
     /// The next line as a `Vec`, without the octet 0a that ends it.
     fn next_text(&mut self) -> Result<Option<Vec<u8>>, NoMemory>
-        ensures line { IfOk result (λ line. IfSome line (λ text. self.old ≡ text.items ∷ self.new)) }
+        ensures line { IfOk result
+            (λ line. IfSome line (λ text. self.old ≡ text.items ∷ self.new)) }
         ensures end { IfOk result (λ line. IfNone line ((self.old ≡ []) × (self.new ≡ []))) }
         ensures err { OnErr result (self.new ≡ self.old) }
     {
@@ -206,8 +210,10 @@ impl Generator {
 
 /// Writes a line and the octet 0a.
 fn write_line<K: Sink>(sink: &mut K, line: Vec<u8>) -> Result<(), GenerateFault>
-    ensures ok { OnOk result (Appends (K.written sink.old) (K.written sink.new) (line.items ++ 10 ∷ [])) }
-    ensures err { OnErr result (AppendsPrefix (K.written sink.old) (K.written sink.new) (line.items ++ 10 ∷ [])) }
+    ensures ok { OnOk result
+        (Appends (K.written sink.old) (K.written sink.new) (line.items ++ 10 ∷ [])) }
+    ensures err { OnErr result
+        (AppendsPrefix (K.written sink.old) (K.written sink.new) (line.items ++ 10 ∷ [])) }
     ensures counts_faults { Counts (result ≡ Err Write) (K.faults sink.old) (K.faults sink.new) }
 {
     let mut text = line;
@@ -228,8 +234,10 @@ pub fn generate<K: Sink>(
 ) -> Result<(), GenerateFault>
     requires some { 1 ≤ count }
     requires most { count ≤ 1000000 }
-    ensures ok { OnOk result (Appends (K.written sink.old) (K.written sink.new) (generated_text count seed)) }
-    ensures err { OnErr result (AppendsPrefix (K.written sink.old) (K.written sink.new) (generated_text count seed)) }
+    ensures ok { OnOk result
+        (Appends (K.written sink.old) (K.written sink.new) (generated_text count seed)) }
+    ensures err { OnErr result
+        (AppendsPrefix (K.written sink.old) (K.written sink.new) (generated_text count seed)) }
     ensures counts_faults { Counts (result ≡ Err Write) (K.faults sink.old) (K.faults sink.new) }
 {
     let mut generator = Generator::new(alloc, count, seed);

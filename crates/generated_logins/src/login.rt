@@ -63,7 +63,8 @@ fn user_name(alloc: Global, number: u32) -> Result<String, NoMemory>
 /// Appends an attribute: its type, its length, its value.
 fn push_attribute(octets: &mut Vec<u8>, code: u8, value: &[u8]) -> Result<(), NoMemory>
     requires { length value.now ≤ 253 }
-    ensures { OnOk result (octets.new.items ≡ octets.old.items ++ attribute_text (record { code = code; value = value.now })) }
+    ensures { OnOk result (octets.new.items
+        ≡ octets.old.items ++ attribute_text (record { code = code; value = value.now })) }
 {
     octets.extend_from_slice(&[code, value.len() as u8 + 2])?;
     octets.extend_from_slice(value)?;
@@ -72,7 +73,8 @@ fn push_attribute(octets: &mut Vec<u8>, code: u8, value: &[u8]) -> Result<(), No
 
 /// The attributes of the request.
 fn request_attributes(alloc: Global, number: u32) -> Result<Vec<u8>, NoMemory>
-    ensures attributes { IfOk result (λ octets. octets.items ≡ attributes_text (specs.request_attributes number)) }
+    ensures attributes { IfOk result
+        (λ octets. octets.items ≡ attributes_text (specs.request_attributes number)) }
     ensures short { IfOk result (λ octets. length octets.items ≤ 15) }
 {
     let name = user_name(alloc, number)?;

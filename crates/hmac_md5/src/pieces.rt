@@ -65,7 +65,8 @@ impl Hmac {
     /// Puts a piece at the end of the message.
     #[tactic(auto, unfolding(crate::specs::Pieces::HasTaken))]
     pub fn update(&mut self, piece: &[u8])
-        ensures { (key message : List ℕ) → HasTaken self.old key message → HasTaken self.new key (message ++ piece.now) }
+        ensures { (key message : List ℕ) → HasTaken self.old key message
+            → HasTaken self.new key (message ++ piece.now) }
     {
         self.inner.update(piece);
     }
@@ -73,7 +74,8 @@ impl Hmac {
     /// The HMAC-MD5 of the whole message (RFC 2104, section 2).
     #[tactic(auto, unfolding(crate::specs::Pieces::HasTaken, crate::specs::Hmac::hmac_of))]
     pub fn finish(self) -> [u8; 16]
-        ensures { (key message : List ℕ) → HasTaken self key message → result ≡ hmac_of key message }
+        ensures { (key message : List ℕ) → HasTaken self key message
+            → result ≡ hmac_of key message }
     {
         let Hmac { inner, mut outer } = self;
         outer.update(&inner.finalize());

@@ -61,7 +61,8 @@ fn first_line(text: &[u8]) -> (&[u8], &[u8])
 /// Appends the lines of what went out. No line that goes out is longer than one of a journal may be. One that was couldn't be
 /// read back, and is refused as if memory were wanting.
 fn push_given(text: &mut Vec<u8>, given: &[u8]) -> Result<(), NoMemory>
-    ensures given { OnOk result (text.new.items ≡ text.old.items ++ ended_text (given_lines given.now)) }
+    ensures given { OnOk result
+        (text.new.items ≡ text.old.items ++ ended_text (given_lines given.now)) }
     ensures short { OnOk result (AreShort (given_lines given.now)) }
 {
     let mut rest = given;
@@ -78,7 +79,8 @@ fn push_given(text: &mut Vec<u8>, given: &[u8]) -> Result<(), NoMemory>
 
 /// Appends the line of a seal.
 fn push_seal(text: &mut Vec<u8>, seal: &[u8; 16]) -> Result<(), NoMemory>
-    ensures { OnOk result (text.new.items ≡ text.old.items ++ ended_text (seal_line seal.now ∷ [])) }
+    ensures { OnOk result
+        (text.new.items ≡ text.old.items ++ ended_text (seal_line seal.now ∷ [])) }
 {
     text.extend_from_slice(SEAL)?;
     push_digits(text, seal)?;
@@ -94,8 +96,10 @@ pub(crate) fn seal_block(
     said: Option<&[u8]>,
     given: &[u8],
 ) -> Result<Block, NoMemory>
-    ensures sealed { IfOk result (λ block. IsSealed block key.now before.now (lines_with said.entry given.now)) }
-    ensures short { IfOk result (λ block. AreShort (given_lines given.now ++ seal_line (seal_of key.now before.now (lines_with said.entry given.now)) ∷ [])) }
+    ensures sealed { IfOk result
+        (λ block. IsSealed block key.now before.now (lines_with said.entry given.now)) }
+    ensures short { IfOk result (λ block. AreShort (given_lines given.now
+        ++ seal_line (seal_of key.now before.now (lines_with said.entry given.now)) ∷ [])) }
 {
     let mut text = Vec::with_capacity(alloc, USUAL_BLOCK)?;
     if let Some(line) = said {

@@ -91,7 +91,8 @@ impl<W: Work> Checker<W> {
 
     /// The verdict where no line follows.
     pub(crate) fn verdict(&self) -> Verdict
-        ensures { (seen : Seen) → IsAt W.task W.took self.now seen → result ≡ verdict_at (one_more self.now.lines) seen }
+        ensures { (seen : Seen) → IsAt W.task W.took self.now seen
+            → result ≡ verdict_at (one_more self.now.lines) seen }
     {
         match self.place {
             LinePlace::Behind => Verdict::Yes { lines: self.said },
@@ -105,7 +106,8 @@ impl<W: Work> Checker<W> {
     /// Takes the title.
     fn take_title(&mut self, line: &[u8]) -> Result<(), StepFault>
         ensures { IsAt W.task W.took self.old Nothing
-            → StepsTo W.task W.took result (checking.step (W.task self.old.work) self.old.key Nothing line.now) self.old self.new }
+            → StepsTo W.task W.took result
+            (checking.step (W.task self.old.work) self.old.key Nothing line.now) self.old self.new }
     {
         if line != TITLE {
             return Err(StepFault::Bad { reason: 1 });
@@ -116,9 +118,12 @@ impl<W: Work> Checker<W> {
 
     /// Takes a line of the input, behind its mark: its block and the seal are due behind it.
     fn take_said(&mut self, alloc: Global, said: &[u8]) -> Result<(), StepFault>
-        requires { (lines : List (List ℕ)) × ((seal : List ℕ) × IsAt W.task W.took self.old (Blocks lines seal)) }
-        ensures { (lines : List (List ℕ)) (seal : List ℕ) → IsAt W.task W.took self.old (Blocks lines seal)
-            → StepsTo W.task W.took result (said_step (W.task self.old.work) self.old.key lines seal said.now
+        requires { (lines : List (List ℕ))
+            × ((seal : List ℕ) × IsAt W.task W.took self.old (Blocks lines seal)) }
+        ensures { (lines : List (List ℕ)) (seal : List ℕ)
+            → IsAt W.task W.took self.old (Blocks lines seal)
+            → StepsTo W.task W.took result
+            (said_step (W.task self.old.work) self.old.key lines seal said.now
             ((W.task self.old.work).stop (lines ++ said.now ∷ []))) self.old self.new }
     {
         let printed = match print_line(alloc, &mut self.work, said) {
@@ -140,8 +145,10 @@ impl<W: Work> Checker<W> {
 
     /// Takes the first line of the last block.
     fn take_end(&mut self, alloc: Global, line: &[u8]) -> Result<(), StepFault>
-        ensures { (lines : List (List ℕ)) (seal : List ℕ) → IsAt W.task W.took self.old (Blocks lines seal)
-            → StepsTo W.task W.took result (end_step lines (end_lines (W.task self.old.work) self.old.key lines seal) line.now) self.old self.new }
+        ensures { (lines : List (List ℕ)) (seal : List ℕ)
+            → IsAt W.task W.took self.old (Blocks lines seal)
+            → StepsTo W.task W.took result (end_step lines
+            (end_lines (W.task self.old.work) self.old.key lines seal) line.now) self.old self.new }
     {
         let Ok(printed) = print_end(alloc, &self.work) else {
             return Err(StepFault::NoMemory);
@@ -156,7 +163,8 @@ impl<W: Work> Checker<W> {
 
     /// Takes the line that is due. The next one stands at this place, or at the other where none is due.
     fn take_due(&mut self, line: &[u8], place: LinePlace, over: LinePlace) -> Result<(), StepFault>
-        ensures { (due : List ℕ) (more : List (List ℕ)) → IsUnended due → self.old.due ≡ ended_text (due ∷ more)
+        ensures { (due : List ℕ) (more : List (List ℕ)) → IsUnended due
+            → self.old.due ≡ ended_text (due ∷ more)
             → GoesOn result due line.now more place over self.old self.new }
     {
         match self.due.take(line) {
@@ -172,7 +180,8 @@ impl<W: Work> Checker<W> {
     fn step(&mut self, alloc: Global, line: &[u8]) -> Result<(), StepFault>
         requires { (seen : Seen) × IsAt W.task W.took self.old seen }
         ensures { (seen : Seen) → IsAt W.task W.took self.old seen
-            → StepsTo W.task W.took result (checking.step (W.task self.old.work) self.old.key seen line.now) self.old self.new }
+            → StepsTo W.task W.took result
+            (checking.step (W.task self.old.work) self.old.key seen line.now) self.old self.new }
     {
         match self.place {
             LinePlace::Title => self.take_title(line),

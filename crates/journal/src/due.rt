@@ -76,7 +76,8 @@ impl Due {
     /// Takes this line where it is the next one. An `Err` is why it isn't.
     pub(crate) fn take(&mut self, line: &[u8]) -> Result<(), u32>
         ensures kept { OnErr result (self.new ≡ self.old) }
-        ensures takes { (due rest : List ℕ) → IsUnended due → self.old ≡ due ++ 10 ∷ rest → TakesDue result due line.now rest self.new }
+        ensures takes { (due rest : List ℕ) → IsUnended due → self.old ≡ due ++ 10 ∷ rest
+            → TakesDue result due line.now rest self.new }
     {
         let (due, ends) = first_piece(&self.text[self.start..]);
         if line != due {

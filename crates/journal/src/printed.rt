@@ -55,7 +55,8 @@ pub(crate) fn print_line<W: Work>(
 /// What stands behind all lines.
 pub(crate) fn print_end<W: Work>(alloc: Global, work: &W) -> Result<MemorySink, Status>
     ensures memory { IfErr result (λ status. status ≡ Status.OutOfMemory) }
-    ensures prints { (lines : List (List ℕ)) → W.took work.now lines → PrintsEnd (W.task work.now) result lines }
+    ensures prints { (lines : List (List ℕ)) → W.took work.now lines
+        → PrintsEnd (W.task work.now) result lines }
 {
     let mut text = empty(alloc)?;
     match work.close(alloc, &mut text) {

@@ -55,8 +55,10 @@ fn judge<W: Work + Drop, S: Source>(
 ) -> Result<Verdict, Status>
     requires took { W.took work [] }
     requires short { IsShortTask (W.task work) }
-    ensures judges { (X : List ℕ) → S.left input.old ≡ Some X → JudgesBy (W.task work) key result X (S.left input.new) }
-    ensures counts { CheckCounts result (S.ends input.old) (S.ends input.new) (S.faults input.old) (S.faults input.new) 0 0 }
+    ensures judges { (X : List ℕ) → S.left input.old ≡ Some X
+        → JudgesBy (W.task work) key result X (S.left input.new) }
+    ensures counts { CheckCounts result (S.ends input.old) (S.ends input.new) (S.faults input.old)
+        (S.faults input.new) 0 0 }
 {
     work.is_task();
     // Nothing is written meanwhile.
@@ -88,12 +90,16 @@ pub fn check_journal<W: Work + Drop, S: Source, K: Sink>(
     requires took { W.took work [] }
     requires short { IsShortTask (W.task work) }
     ensures checks { (X : List ℕ) → S.left input.old ≡ Some X
-        → ChecksBy (W.task work) key result X (S.left input.new) (K.written output.old) (K.written output.new) }
-    ensures counts { CheckCounts result (S.ends input.old) (S.ends input.new) (S.faults input.old) (S.faults input.new)
+        → ChecksBy (W.task work) key result X (S.left input.new) (K.written output.old)
+        (K.written output.new) }
+    ensures counts { CheckCounts result (S.ends input.old) (S.ends input.new) (S.faults input.old)
+        (S.faults input.new)
         (K.faults output.old) (K.faults output.new) }
-    ensures complete { (X text : List ℕ) → S.left input.old ≡ Some X → (W.task work).stop (lines_of text) ≡ None
+    ensures complete { (X text : List ℕ) → S.left input.old ≡ Some X
+        → (W.task work).stop (lines_of text) ≡ None
         → X ≡ journal_text (W.task work) key (lines_of text) → length X ≤ most_octets
-        → ¬ Rose (S.faults input.old) (S.faults input.new) → ¬ Rose (K.faults output.old) (K.faults output.new)
+        → ¬ Rose (S.faults input.old) (S.faults input.new)
+        → ¬ Rose (K.faults output.old) (K.faults output.new)
         → ((count : ℕ) × (result ≡ Ok (Verdict.Yes count))) ⊎ (result ≡ Err Status.OutOfMemory) }
 {
     work.is_task();

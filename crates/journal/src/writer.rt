@@ -89,11 +89,15 @@ pub fn write_journal<W: Work + Drop, S: Source, K: Sink>(
     requires { W.took work [] }
     ensures begun { result ≢ Status.Usage }
     ensures ends { (X : List ℕ) → S.left input.old ≡ Some X
-        → EndsBy (journal_task (W.task work) key) result X (S.left input.new) (K.written output.old) (K.written output.new) }
-    ensures counts { EndsCounts result (S.ends input.old) (S.ends input.new) (S.faults input.old) (S.faults input.new)
+        → EndsBy (journal_task (W.task work) key) result X (S.left input.new) (K.written output.old)
+        (K.written output.new) }
+    ensures counts { EndsCounts result (S.ends input.old) (S.ends input.new) (S.faults input.old)
+        (S.faults input.new)
         (K.faults output.old) (K.faults output.new) }
-    ensures complete { (X : List ℕ) → S.left input.old ≡ Some X → (W.task work).stop (lines_of X) ≡ None → length X ≤ most_octets
-        → ¬ Rose (S.faults input.old) (S.faults input.new) → ¬ Rose (K.faults output.old) (K.faults output.new)
+    ensures complete { (X : List ℕ) → S.left input.old ≡ Some X
+        → (W.task work).stop (lines_of X) ≡ None → length X ≤ most_octets
+        → ¬ Rose (S.faults input.old) (S.faults input.new)
+        → ¬ Rose (K.faults output.old) (K.faults output.new)
         → (result ≡ Status.Done) ⊎ (result ≡ Status.OutOfMemory) }
 {
     work.is_task();

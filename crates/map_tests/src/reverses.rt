@@ -77,7 +77,8 @@ fn is_asked(message: &Message<'_>) -> bool
 /// Whether octets are such a request, and an Access-Accept answers it.
 fn is_request(octets: &[u8], code: u8) -> bool
     ensures asked { IsTrue result → IsSome (request_in octets.now) }
-    ensures code { IsTrue result → ForRequest octets.now (λ q. IsTrue (is_reply_code q.header code)) }
+    ensures code { IsTrue result
+        → ForRequest octets.now (λ q. IsTrue (is_reply_code q.header code)) }
 {
     let Ok(message) = parse(octets) else {
         return false;

@@ -35,7 +35,8 @@ fn part_name(alloc: Global, vendor: u32, code: u8) -> Result<String, NoMemory>
 
 /// Appends the line of a part of a Vendor-Specific attribute.
 fn push_part(alloc: Global, text: &mut Vec<u8>, part: VsaPart<'_>) -> Result<(), NoMemory>
-    ensures { OnOk result (text.new.items ≡ text.old.items ++ named.part_line (part_view part.entry)) }
+    ensures { OnOk result
+        (text.new.items ≡ text.old.items ++ named.part_line (part_view part.entry)) }
 {
     let VsaPart { vendor, code, body } = part;
     let name = part_name(alloc, vendor, code)?;
@@ -44,7 +45,8 @@ fn push_part(alloc: Global, text: &mut Vec<u8>, part: VsaPart<'_>) -> Result<(),
 
 /// Appends the lines of the parts of a Vendor-Specific attribute.
 fn push_parts(alloc: Global, text: &mut Vec<u8>, parts: Vsa<'_>) -> Result<(), NoMemory>
-    ensures { OnOk result (text.new.items ≡ text.old.items ++ flat_map named.part_line parts.entry) }
+    ensures { OnOk result
+        (text.new.items ≡ text.old.items ++ flat_map named.part_line parts.entry) }
 {
     for part in parts {
         push_part(alloc, text, part)?;
@@ -54,7 +56,8 @@ fn push_parts(alloc: Global, text: &mut Vec<u8>, parts: Vsa<'_>) -> Result<(), N
 
 /// Appends the lines of a Vendor-Specific attribute.
 fn push_vendor(alloc: Global, text: &mut Vec<u8>, value: &[u8]) -> Result<(), NoMemory>
-    ensures { OnOk result (text.new.items ≡ text.old.items ++ named.vendor_lines (vendor_parts value.now) value.now) }
+    ensures { OnOk result
+        (text.new.items ≡ text.old.items ++ named.vendor_lines (vendor_parts value.now) value.now) }
 {
     match vsa(value) {
         Some(parts) => push_parts(alloc, text, parts),
@@ -78,7 +81,8 @@ fn push_tagged(
     kind: Kind,
     value: &[u8],
 ) -> Result<(), NoMemory>
-    ensures { OnOk result (text.new.items ≡ text.old.items ++ named.tagged_line code name.now kind value.now) }
+    ensures { OnOk result
+        (text.new.items ≡ text.old.items ++ named.tagged_line code name.now kind value.now) }
 {
     match (kind, value) {
         (Kind::Number, [tag, a, b, c]) => {
@@ -95,7 +99,8 @@ fn push_tagged(
 
 /// Appends the line of an attribute of this type.
 fn push_plain(alloc: Global, text: &mut Vec<u8>, code: u32, value: &[u8]) -> Result<(), NoMemory>
-    ensures { OnOk result (text.new.items ≡ text.old.items ++ named.attribute_line code value.now (avp_named code)) }
+    ensures { OnOk result
+        (text.new.items ≡ text.old.items ++ named.attribute_line code value.now (avp_named code)) }
 {
     match find_avp(code) {
         Some((name, kind)) => {
@@ -118,7 +123,8 @@ fn push_attribute(
     text: &mut Vec<u8>,
     attribute: &Attribute<'_>,
 ) -> Result<(), NoMemory>
-    ensures { OnOk result (text.new.items ≡ text.old.items ++ named.attribute_lines (attribute_view attribute.now)) }
+    ensures { OnOk result
+        (text.new.items ≡ text.old.items ++ named.attribute_lines (attribute_view attribute.now)) }
 {
     if attribute.code == VENDOR_SPECIFIC {
         push_vendor(alloc, text, attribute.value)
@@ -133,7 +139,8 @@ pub fn push_attributes(
     text: &mut Vec<u8>,
     packet: &Packet<'_>,
 ) -> Result<(), NoMemory>
-    ensures { OnOk result (text.new.items ≡ text.old.items ++ flat_map named.attribute_lines packet.now.attributes) }
+    ensures { OnOk result
+        (text.new.items ≡ text.old.items ++ flat_map named.attribute_lines packet.now.attributes) }
 {
     for attribute in packet.attributes() {
         push_attribute(alloc, text, &attribute)?;

@@ -24,7 +24,8 @@ fn push_fault(
     indent: usize,
     fault: AvpFault,
 ) -> Result<(), NoMemory>
-    ensures { OnOk result (text.new.items ≡ text.old.items ++ (replicate indent 32 ++ fault_text fault)) }
+    ensures { OnOk result
+        (text.new.items ≡ text.old.items ++ (replicate indent 32 ++ fault_text fault)) }
 {
     push_indent(text, indent)?;
     let line = avp_fault_line(alloc, fault)?;
@@ -40,7 +41,8 @@ fn push_plain(
     code: u32,
     body: &[u8],
 ) -> Result<(), NoMemory>
-    ensures { OnOk result (text.new.items ≡ text.old.items ++ named.named_line indent code body.now (avp_named code)) }
+    ensures { OnOk result (text.new.items
+        ≡ text.old.items ++ named.named_line indent code body.now (avp_named code)) }
 {
     match find_avp(code) {
         Some((name, kind)) => push_line(alloc, text, indent, name, code, kind, body),
@@ -66,7 +68,8 @@ fn push_item(
     indent: usize,
     item: Result<Avp<'_>, AvpFault>,
 ) -> Result<(), NoMemory>
-    ensures { OnOk result (text.new.items ≡ text.old.items ++ named.item_line indent (item_view item.entry)) }
+    ensures { OnOk result
+        (text.new.items ≡ text.old.items ++ named.item_line indent (item_view item.entry)) }
 {
     match item {
         Ok(
@@ -132,7 +135,8 @@ fn push_opened(
     item: Result<Avp<'_>, AvpFault>,
 ) -> Result<(), NoMemory>
     requires { indent + 4 * depth < 2 ^ 32 }
-    ensures { OnOk result (text.new.items ≡ text.old.items ++ named.lines_at depth indent (item_view item.entry)) }
+    ensures { OnOk result
+        (text.new.items ≡ text.old.items ++ named.lines_at depth indent (item_view item.entry)) }
 {
     let Some(deeper) = depth.checked_sub(1) else {
         return push_item(alloc, text, indent, item);
@@ -157,7 +161,8 @@ pub fn push_avps(
     octets: &[u8],
 ) -> Result<(), NoMemory>
     requires { indent + 4 * depth < 2 ^ 32 }
-    ensures { OnOk result (text.new.items ≡ text.old.items ++ named.list_lines depth indent octets.now) }
+    ensures { OnOk result
+        (text.new.items ≡ text.old.items ++ named.list_lines depth indent octets.now) }
 {
     for item in avps(octets) {
         push_opened(alloc, text, depth, indent, item)?;

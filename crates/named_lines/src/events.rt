@@ -33,7 +33,8 @@ fn push_datagram(
     port: u16,
     octets: &[u8],
 ) -> Result<(), NoMemory>
-    ensures { OnOk result (text.new.items ≡ text.old.items ++ named.datagram_lines address port octets.now) }
+    ensures { OnOk result
+        (text.new.items ≡ text.old.items ++ named.datagram_lines address port octets.now) }
 {
     let [a, b, c, d] = address.to_be_bytes();
     let place = format!(in alloc; "{a}.{b}.{c}.{d}:{port} ")?;
@@ -90,7 +91,8 @@ pub fn push_event(
     moment: u64,
     input: &Input,
 ) -> Result<(), NoMemory>
-    ensures { OnOk result (text.new.items ≡ text.old.items ++ named.event_lines number moment input.now) }
+    ensures { OnOk result
+        (text.new.items ≡ text.old.items ++ named.event_lines number moment input.now) }
 {
     let start = format!(in alloc; "{number} {moment} ")?;
     push_text(text, &start)?;
@@ -123,7 +125,8 @@ fn push_reason(alloc: Global, text: &mut Vec<u8>, reason: Reason) -> Result<(), 
 
 /// Appends the line of an input about which nothing was done.
 fn push_drop(alloc: Global, text: &mut Vec<u8>, number: u64, reason: Reason) -> Result<(), NoMemory>
-    ensures { OnOk result (text.new.items ≡ text.old.items ++ (decimal number ++ codes " drop " ++ named.reason_text reason ++ 10 ∷ [])) }
+    ensures { OnOk result (text.new.items ≡ text.old.items
+        ++ (decimal number ++ codes " drop " ++ named.reason_text reason ++ 10 ∷ [])) }
 {
     let start = format!(in alloc; "{number} drop ")?;
     push_text(text, &start)?;
@@ -138,7 +141,8 @@ pub fn push_output(
     number: u64,
     output: &Output,
 ) -> Result<(), NoMemory>
-    ensures { OnOk result (text.new.items ≡ text.old.items ++ named.output_lines number output.now) }
+    ensures { OnOk result
+        (text.new.items ≡ text.old.items ++ named.output_lines number output.now) }
 {
     match output {
         Output::Reply {

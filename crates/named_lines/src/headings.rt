@@ -52,7 +52,8 @@ fn push_packet_heading(
 
 /// Appends the packet that octets are, with its attributes, or what is wrong with it.
 pub(crate) fn push_packet(alloc: Global, text: &mut Vec<u8>, octets: &[u8]) -> Result<(), NoMemory>
-    ensures { OnOk result (text.new.items ≡ text.old.items ++ named.packet_lines (read_packet octets.now)) }
+    ensures { OnOk result
+        (text.new.items ≡ text.old.items ++ named.packet_lines (read_packet octets.now)) }
 {
     match Packet::parse(octets) {
         Ok(packet) => {
@@ -81,7 +82,8 @@ fn direction(flags: u8) -> &'static str
 /// The name of a message by its command and its flags.
 #[tactic(auto, unfolding(crate::specs::NamedText::command_name))]
 pub fn command_name(alloc: Global, command: u32, flags: u8) -> Result<String, NoMemory>
-    ensures { IfOk result (λ name. string_bytes name ≡ named.command_name command flags (command_named command)) }
+    ensures { IfOk result
+        (λ name. string_bytes name ≡ named.command_name command flags (command_named command)) }
 {
     match find_command(command) {
         Some(name) => {
@@ -122,7 +124,8 @@ fn push_message_heading(
 
 /// Appends the message that octets are, with its AVPs, or what is wrong with it.
 pub(crate) fn push_message(alloc: Global, text: &mut Vec<u8>, octets: &[u8]) -> Result<(), NoMemory>
-    ensures { OnOk result (text.new.items ≡ text.old.items ++ named.message_lines (length octets.now) (read_message octets.now)) }
+    ensures { OnOk result (text.new.items
+        ≡ text.old.items ++ named.message_lines (length octets.now) (read_message octets.now)) }
 {
     match parse(octets) {
         Ok(message) => {

@@ -22,7 +22,8 @@ pub(crate) fn push_indent(text: &mut Vec<u8>, indent: usize) -> Result<(), NoMem
 
 /// Appends the beginning of a line: a name, and what stands before its value.
 pub(crate) fn push_name(text: &mut Vec<u8>, indent: usize, name: &str) -> Result<(), NoMemory>
-    ensures { OnOk result (text.new.items ≡ text.old.items ++ (replicate indent 32 ++ name.now ++ codes " = ")) }
+    ensures { OnOk result
+        (text.new.items ≡ text.old.items ++ (replicate indent 32 ++ name.now ++ codes " = ")) }
 {
     push_indent(text, indent)?;
     text.extend_from_slice(name.as_bytes())?;
@@ -40,7 +41,8 @@ pub(crate) fn push_line(
     kind: Kind,
     value: &[u8],
 ) -> Result<(), NoMemory>
-    ensures { OnOk result (text.new.items ≡ text.old.items ++ named.line indent name.now (values.value_text code kind value.now)) }
+    ensures { OnOk result (text.new.items
+        ≡ text.old.items ++ named.line indent name.now (values.value_text code kind value.now)) }
 {
     push_name(text, indent, name)?;
     push_value(alloc, text, code, kind, value)?;
@@ -55,7 +57,8 @@ pub(crate) fn push_hex_line(
     name: &str,
     value: &[u8],
 ) -> Result<(), NoMemory>
-    ensures { OnOk result (text.new.items ≡ text.old.items ++ named.line indent name.now (values.in_hex value.now)) }
+    ensures { OnOk result
+        (text.new.items ≡ text.old.items ++ named.line indent name.now (values.in_hex value.now)) }
 {
     push_name(text, indent, name)?;
     push_hex(text, value)?;
@@ -70,7 +73,8 @@ fn push_vendor_value(
     code: u32,
     value: &[u8],
 ) -> Result<(), NoMemory>
-    ensures { OnOk result (text.new.items ≡ text.old.items ++ named.vendor_value vendor code value.now) }
+    ensures { OnOk result
+        (text.new.items ≡ text.old.items ++ named.vendor_value vendor code value.now) }
 {
     if is_key(code, Some(vendor)) {
         text.extend_from_slice(b"hidden")?;
@@ -89,7 +93,8 @@ pub(crate) fn push_vendor_line(
     code: u32,
     value: &[u8],
 ) -> Result<(), NoMemory>
-    ensures { OnOk result (text.new.items ≡ text.old.items ++ named.line indent name.now (named.vendor_value vendor code value.now)) }
+    ensures { OnOk result (text.new.items
+        ≡ text.old.items ++ named.line indent name.now (named.vendor_value vendor code value.now)) }
 {
     push_name(text, indent, name)?;
     push_vendor_value(text, vendor, code, value)?;

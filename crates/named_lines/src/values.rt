@@ -56,7 +56,8 @@ pub(crate) fn push_decimal(alloc: Global, text: &mut Vec<u8>, number: u64) -> Re
 
 /// Appends the name of a value behind a space, where it has one.
 fn push_value_name(text: &mut Vec<u8>, name: Option<&str>) -> Result<(), NoMemory>
-    ensures { OnOk result (text.new.items ≡ text.old.items ++ values.name_behind (option_map (λ n. n.now) name.entry)) }
+    ensures { OnOk result (text.new.items
+        ≡ text.old.items ++ values.name_behind (option_map (λ n. n.now) name.entry)) }
 {
     if let Some(name) = name {
         text.push(b' ')?;
@@ -125,7 +126,8 @@ pub(crate) fn push_value(
     kind: Kind,
     body: &[u8],
 ) -> Result<(), NoMemory>
-    ensures { OnOk result (text.new.items ≡ text.old.items ++ values.value_text code kind body.now) }
+    ensures { OnOk result
+        (text.new.items ≡ text.old.items ++ values.value_text code kind body.now) }
 {
     match kind {
         Kind::Text => push_quoted(text, body),

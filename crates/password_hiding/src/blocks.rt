@@ -36,7 +36,8 @@ fn mask_block(secret: &[u8], before: &[u8; BLOCK], block: &mut [u8])
 /// The same for the block at a place.
 fn mask_at(secret: &[u8], before: &[u8; BLOCK], octets: &mut [u8], place: usize)
     requires { place + 16 ≤ length octets.old }
-    ensures { octets.new ≡ take place octets.old ++ xor_each (take 16 (drop place octets.old)) (md5 (secret.now ++ before.now)) ++ drop (place + 16) octets.old }
+    ensures { octets.new ≡ take place octets.old ++ xor_each (take 16 (drop place octets.old))
+        (md5 (secret.now ++ before.now)) ++ drop (place + 16) octets.old }
 {
     mask_block(secret, before, &mut octets[place..place + BLOCK]);
 }
@@ -58,7 +59,8 @@ pub fn hide_blocks(secret: &[u8], authenticator: &[u8; BLOCK], octets: &mut [u8]
 pub fn unhide_blocks(secret: &[u8], authenticator: &[u8; BLOCK], octets: &mut [u8])
     requires { IsTrue (is_hidden_length (length octets.old)) }
     ensures hides { Hides secret.now authenticator.now octets.new octets.old }
-    ensures plain { octets.new ≡ plain_blocks secret.now authenticator.now octets.old (length octets.old / 16) }
+    ensures plain { octets.new
+        ≡ plain_blocks secret.now authenticator.now octets.old (length octets.old / 16) }
 {
     let mut before = *authenticator;
     for i in 0..octets.len() / BLOCK {

@@ -5,12 +5,14 @@ ghost use Rattle.password_hiding.specs.Hiding.{Hides, is_hidden_length, padded_l
 
 /// A password has one hidden form at most.
 pub fn one_hidden_form()
-    ensures { (secret authenticator plain hidden other : List ℕ) → Hides secret authenticator plain hidden → Hides secret authenticator plain other → hidden ≡ other }
+    ensures { (secret authenticator plain hidden other : List ℕ) → Hides secret authenticator plain
+        hidden → Hides secret authenticator plain other → hidden ≡ other }
 {}
 
 /// Hidden octets hide one password at most.
 pub fn one_plain_form()
-    ensures { (secret authenticator hidden plain other : List ℕ) → Hides secret authenticator plain hidden → Hides secret authenticator other hidden → plain ≡ other }
+    ensures { (secret authenticator hidden plain other : List ℕ) → Hides secret authenticator plain
+        hidden → Hides secret authenticator other hidden → plain ≡ other }
 {}
 
 /// What is unhidden is the password that was hidden, without the zeros at its end.
@@ -27,6 +29,8 @@ pub fn least_length()
 
 /// What is left out at the end is zeros, and all of them.
 pub fn zeros_at_the_end()
-    ensures zeros { (octets : List ℕ) → octets ≡ trimmed octets ++ replicate (length octets - length (trimmed octets)) 0 }
-    ensures all { (octets front : List ℕ) (last : ℕ) → trimmed octets ≡ front ++ last ∷ [] → last ≢ 0 }
+    ensures zeros { (octets : List ℕ)
+        → octets ≡ trimmed octets ++ replicate (length octets - length (trimmed octets)) 0 }
+    ensures all { (octets front : List ℕ) (last : ℕ) → trimmed octets ≡ front ++ last ∷ []
+        → last ≢ 0 }
 {}

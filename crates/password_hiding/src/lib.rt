@@ -77,8 +77,10 @@ fn with_zeros(password: &[u8]) -> [u8; MOST]
 /// Hides a password of up to 128 octets under the secret and the Request Authenticator.
 pub fn hide(secret: &[u8], authenticator: &[u8; 16], password: &[u8]) -> Result<Hidden, TooLong>
     ensures short { is_ok result ≡ nat_le (length password.now) 128 }
-    ensures hides { IfOk result (λ hidden. Hides secret.now authenticator.now (padded password.now) hidden) }
-    ensures form { IfOk result (λ hidden. hidden ≡ hidden_form secret.now authenticator.now password.now) }
+    ensures hides { IfOk result
+        (λ hidden. Hides secret.now authenticator.now (padded password.now) hidden) }
+    ensures form { IfOk result
+        (λ hidden. hidden ≡ hidden_form secret.now authenticator.now password.now) }
 {
     if password.len() > MOST {
         return Err(TooLong);
@@ -107,7 +109,8 @@ pub fn unhide(secret: &[u8], authenticator: &[u8; 16], value: &mut [u8]) -> Resu
     ensures sized { is_ok result ≡ is_hidden_length (length value.old) }
     ensures hides { OnOk result (Hides secret.now authenticator.now value.new value.old) }
     ensures length { IfOk result (λ n. n ≡ length (trimmed value.new)) }
-    ensures plain { IfOk result (λ n. take n value.new ≡ plain_form secret.now authenticator.now value.old) }
+    ensures plain { IfOk result
+        (λ n. take n value.new ≡ plain_form secret.now authenticator.now value.old) }
     ensures err { OnErr result (value.new ≡ value.old) }
 {
     let length = value.len();

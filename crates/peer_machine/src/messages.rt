@@ -36,7 +36,8 @@ pub struct Names {
 /// Puts the address of the agent: its family, 1 for IPv4, and its octets (RFC 6733, section 4.3.1).
 fn put_address(writer: &mut MessageWriter, address: u32) -> Result<(), NoMemory>
     requires { list_length writer.old ≤ 5600 }
-    ensures { OnOk result (Puts writer.old writer.new (plain_avp 257 (specs.address_body address) ∷ []) 17) }
+    ensures { OnOk result
+        (Puts writer.old writer.new (plain_avp 257 (specs.address_body address) ∷ []) 17) }
 {
     let mut octets = [0, 1, 0, 0, 0, 0];
     put_u32(&mut octets, 2, address);
@@ -155,7 +156,8 @@ fn answer_header(header: &Header, error: bool) -> Header
 /// Puts the Session-Id of a request, where it has one that is short enough.
 fn put_session(writer: &mut MessageWriter, avps: &[u8]) -> Result<(), NoMemory>
     requires { list_length writer.old ≡ 0 }
-    ensures { OnOk result (Puts writer.old writer.new (specs.session_avps (find (has_size 263 0 4096) (readable_avps avps.now))) 4107) }
+    ensures { OnOk result (Puts writer.old writer.new
+        (specs.session_avps (find (has_size 263 0 4096) (readable_avps avps.now))) 4107) }
 {
     match find_avp(avps, SESSION_ID, 0, LONGEST_SESSION) {
         Some(avp) => writer.put_plain(SESSION_ID, avp.body),

@@ -70,7 +70,8 @@ fn step_once<C: Clock, D: Datagrams>(
     clock: &mut C,
     socket: &mut D,
 ) -> NasOutput
-    ensures steps { StepsOnce result place nas.old nas.new (option_copied got.entry) (C.readings clock.old) (C.readings clock.new) (D.told socket.old) (D.told socket.new) }
+    ensures steps { StepsOnce result place nas.old nas.new (option_copied got.entry)
+        (C.readings clock.old) (C.readings clock.new) (D.told socket.old) (D.told socket.new) }
     ensures row { (D.told socket.new).row ≡ (D.told socket.old).row }
     ensures faults_stay { (D.told socket.old).faults ≤ (D.told socket.new).faults }
 {
@@ -95,7 +96,8 @@ pub(crate) fn ask<R: Wait, C: Clock, D: Datagrams>(
     requires row { failures.old ≡ (D.told socket.old).row }
     requires few { failures.old < 16 }
     ensures asks { (patience : ℕ) (packet : List ℕ) → nas.old ≡ fresh packet patience
-        → EndsAsking result place patience packet (C.readings clock.old) (C.readings clock.new) (D.told socket.old) (D.told socket.new) buf.new }
+        → EndsAsking result place patience packet (C.readings clock.old) (C.readings clock.new)
+        (D.told socket.old) (D.told socket.new) buf.new }
     ensures row { failures.new ≡ (D.told socket.new).row }
     ensures few { OnOk result (failures.new < 16) }
     ensures many { IfErr result (λ status. (status ≡ Status.DatagramFault) × (failures.new ≡ 16)) }

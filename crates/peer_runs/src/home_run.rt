@@ -33,8 +33,10 @@ pub struct HomeEnd<I, O> {
 /// The home server of the users that the input names.
 fn read_users<S: Source>(alloc: Global, input: &mut S) -> Result<Home, Status>
     ensures reads { (X : List ℕ) → S.left input.old ≡ Some X
-        → MatchResult result (λ home. Knows home X (S.left input.new)) (λ status. ReadsNone status X (S.left input.new)) }
-    ensures fails { IfErr result (λ status. FailsToRead status (S.faults input.old) (S.faults input.new)) }
+        → MatchResult result (λ home. Knows home X (S.left input.new))
+        (λ status. ReadsNone status X (S.left input.new)) }
+    ensures fails { IfErr result
+        (λ status. FailsToRead status (S.faults input.old) (S.faults input.new)) }
 {
     let text = match take_whole(alloc, input) {
         Ok(text) => text,
@@ -76,7 +78,8 @@ fn take_message<O: LinkOut, K: Sink>(
     ensures users { home.new ≡ home.old }
     ensures takes { Takes result (answer_octets home.old message.now) (line_of home.old message.now)
         (O.told link.old) (O.told link.new) (K.written output.old) (K.written output.new) }
-    ensures fault { result ≡ Some Status.WriteFault → Rose (K.faults output.old) (K.faults output.new) }
+    ensures fault { result ≡ Some Status.WriteFault
+        → Rose (K.faults output.old) (K.faults output.new) }
     ensures faults_stay { K.faults output.old ≤ K.faults output.new }
 {
     let Ok(answer) = home.step(message) else {
@@ -109,8 +112,10 @@ fn take_messages<R: Wait, O: LinkOut, K: Sink>(
     ensures users { home.new ≡ home.old }
     ensures answers { (inlet : Inlet) (before : Option (List ℕ))
         → SoFar home.old [] framer.old inlet (O.told link.old) before (K.written output.old)
-        → KeepsAnswering result home.old framer.new inlet (O.told link.new) before (K.written output.new) }
-    ensures fault { result ≡ Some Status.WriteFault → Rose (K.faults output.old) (K.faults output.new) }
+        → KeepsAnswering result home.old framer.new inlet (O.told link.new) before
+        (K.written output.new) }
+    ensures fault { result ≡ Some Status.WriteFault
+        → Rose (K.faults output.old) (K.faults output.new) }
     ensures faults_stay { K.faults output.old ≤ K.faults output.new }
 {
     for _ in rt.forever() {
@@ -141,8 +146,10 @@ fn take_piece<R: Wait, O: LinkOut, K: Sink>(
     ensures users { home.new ≡ home.old }
     ensures answers { (inlet : Inlet) (before : Option (List ℕ))
         → SoFar home.old piece.now framer.old inlet (O.told link.old) before (K.written output.old)
-        → KeepsAnswering result home.old framer.new inlet (O.told link.new) before (K.written output.new) }
-    ensures fault { result ≡ Some Status.WriteFault → Rose (K.faults output.old) (K.faults output.new) }
+        → KeepsAnswering result home.old framer.new inlet (O.told link.new) before
+        (K.written output.new) }
+    ensures fault { result ≡ Some Status.WriteFault
+        → Rose (K.faults output.old) (K.faults output.new) }
     ensures faults_stay { K.faults output.old ≤ K.faults output.new }
 {
     let Ok(()) = framer.feed(piece) else {
@@ -163,9 +170,12 @@ fn look<R: Wait, I: LinkIn, O: LinkOut, K: Sink>(
 ) -> Option<Status>
     ensures users { home.new ≡ home.old }
     ensures answers { (before : Option (List ℕ))
-        → Rests home.old framer.old (I.told link.old.0) (O.told link.old.1) before (K.written output.old)
-        → KeepsAnswering result home.old framer.new (I.told link.new.0) (O.told link.new.1) before (K.written output.new) }
-    ensures fault { result ≡ Some Status.WriteFault → Rose (K.faults output.old) (K.faults output.new) }
+        → Rests home.old framer.old (I.told link.old.0) (O.told link.old.1) before
+        (K.written output.old)
+        → KeepsAnswering result home.old framer.new (I.told link.new.0) (O.told link.new.1) before
+        (K.written output.new) }
+    ensures fault { result ≡ Some Status.WriteFault
+        → Rose (K.faults output.old) (K.faults output.new) }
     ensures faults_stay { K.faults output.old ≤ K.faults output.new }
 {
     match link.0.receive(buf) {
@@ -192,7 +202,8 @@ fn answer_link<R: Wait, I: LinkIn, O: LinkOut, K: Sink, C: Clock>(
     link: &mut (I, O),
 ) -> Status
     requires fresh { IsFreshInlet (I.told link.old.0) × IsFreshOutlet (O.told link.old.1) }
-    ensures runs { RunsBy result home.old (Early until (C.readings clock.old) (C.readings clock.new)) (Late until (C.readings clock.old) (C.readings clock.new))
+    ensures runs { RunsBy result home.old (Early until (C.readings clock.old)
+        (C.readings clock.new)) (Late until (C.readings clock.old) (C.readings clock.new))
         (I.told link.new.0) (O.told link.new.1) (K.written output.old) (K.written output.new) }
     ensures fault { result ≡ Status.WriteFault → Rose (K.faults output.old) (K.faults output.new) }
 {
@@ -223,18 +234,26 @@ pub fn home<R: Wait, S: Source, K: Sink, C: Clock, L: Dialer>(
 ) -> HomeEnd<L::In, L::Out>
     ensures begun { result.status ≢ Status.Usage }
     ensures ends { (X : List ℕ) → S.left input.old ≡ Some X
-        → HomeBy L.In.told L.Out.told result.status result.link X (S.left input.new) (Dialled result.link (L.told dialer.old) (L.told dialer.new))
-        (InTime millis (C.readings clock.old) (C.readings clock.new)) (TimeIsOver millis (C.readings clock.old) (C.readings clock.new))
-        (K.written output.old) (K.written output.new) }
-    ensures causes { HomeCauses L.In.told L.Out.told result.status result.link (S.faults input.old) (S.faults input.new)
+        → HomeBy L.In.told L.Out.told result.status result.link X (S.left input.new)
         (Dialled result.link (L.told dialer.old) (L.told dialer.new))
-        (InTime millis (C.readings clock.old) (C.readings clock.new)) (TimeIsOver millis (C.readings clock.old) (C.readings clock.new))
+        (InTime millis (C.readings clock.old) (C.readings clock.new))
+        (TimeIsOver millis (C.readings clock.old) (C.readings clock.new))
         (K.written output.old) (K.written output.new) }
-    ensures counts { HomeCounts result.status (S.faults input.old) (S.faults input.new) (K.faults output.old) (K.faults output.new) }
+    ensures causes { HomeCauses L.In.told L.Out.told result.status result.link (S.faults input.old)
+        (S.faults input.new)
+        (Dialled result.link (L.told dialer.old) (L.told dialer.new))
+        (InTime millis (C.readings clock.old) (C.readings clock.new))
+        (TimeIsOver millis (C.readings clock.old) (C.readings clock.new))
+        (K.written output.old) (K.written output.new) }
+    ensures counts { HomeCounts result.status (S.faults input.old) (S.faults input.new)
+        (K.faults output.old) (K.faults output.new) }
     // A list of users that is short enough is served, but where a call failed or memory ran out.
-    ensures complete { (X : List ℕ) (users : List User) → S.left input.old ≡ Some X → users_in X ≡ Ok users → length X ≤ most_whole
-        → ¬ Rose (S.faults input.old) (S.faults input.new) → ¬ Rose (K.faults output.old) (K.faults output.new)
-        → ¬ Rose (L.told dialer.old).faults (L.told dialer.new).faults → IsSound L.In.told L.Out.told result.link
+    ensures complete { (X : List ℕ) (users : List User) → S.left input.old ≡ Some X
+        → users_in X ≡ Ok users → length X ≤ most_whole
+        → ¬ Rose (S.faults input.old) (S.faults input.new)
+        → ¬ Rose (K.faults output.old) (K.faults output.new)
+        → ¬ Rose (L.told dialer.old).faults (L.told dialer.new).faults
+        → IsSound L.In.told L.Out.told result.link
         → (result.status ≡ Status.Done) ⊎ (result.status ≡ Status.OutOfMemory) }
 {
     let mut home = match read_users(alloc, input) {

@@ -92,12 +92,14 @@ fn ask_text<R: Wait, C: Clock, D: Datagrams>(
 ) -> Result<Octets, Status>
     requires row { failures.old ≡ (D.told socket.old).row }
     requires few { failures.old < 16 }
-    ensures text { AsksText result place patience number line.now (C.readings clock.old) (C.readings clock.new) (D.told socket.old) (D.told socket.new) }
+    ensures text { AsksText result place patience number line.now (C.readings clock.old)
+        (C.readings clock.new) (D.told socket.old) (D.told socket.new) }
     ensures row { failures.new ≡ (D.told socket.new).row }
     ensures most { failures.new ≤ 16 }
     ensures many { (result ≡ Err Status.DatagramFault) ↔ (failures.new ≡ 16) }
     ensures faults_stay { (D.told socket.old).faults ≤ (D.told socket.new).faults }
-    ensures rose { result ≡ Err Status.DatagramFault → Rose (D.told socket.old).faults (D.told socket.new).faults }
+    ensures rose { result ≡ Err Status.DatagramFault
+        → Rose (D.told socket.old).faults (D.told socket.new).faults }
 {
     let packet = match packet_of(alloc, number, line) {
         Ok(packet) => packet,
@@ -129,15 +131,18 @@ fn ask_line<R: Wait, K: Sink, C: Clock, D: Datagrams>(
 ) -> Result<(), Status>
     requires row { counts.old.failures ≡ (D.told socket.old).row }
     requires few { counts.old.failures < 16 }
-    ensures line { AsksLine result place patience (one_more counts.old.lines) line.now (K.written output.old) (K.written output.new)
+    ensures line { AsksLine result place patience (one_more counts.old.lines) line.now
+        (K.written output.old) (K.written output.new)
         (C.readings clock.old) (C.readings clock.new) (D.told socket.old) (D.told socket.new) }
     ensures lines { OnOk result (counts.new.lines ≡ one_more counts.old.lines) }
     ensures row { counts.new.failures ≡ (D.told socket.new).row }
     ensures most { counts.new.failures ≤ 16 }
     ensures many { (result ≡ Err Status.DatagramFault) ↔ (counts.new.failures ≡ 16) }
     ensures faults_stay { (D.told socket.old).faults ≤ (D.told socket.new).faults }
-    ensures rose { result ≡ Err Status.DatagramFault → Rose (D.told socket.old).faults (D.told socket.new).faults }
-    ensures write_fault { result ≡ Err Status.WriteFault → Rose (K.faults output.old) (K.faults output.new) }
+    ensures rose { result ≡ Err Status.DatagramFault
+        → Rose (D.told socket.old).faults (D.told socket.new).faults }
+    ensures write_fault { result ≡ Err Status.WriteFault
+        → Rose (K.faults output.old) (K.faults output.new) }
     ensures writes_stay { K.faults output.old ≤ K.faults output.new }
 {
     let number = number_after(counts.lines);
@@ -195,16 +200,21 @@ pub fn nas<R: Wait, S: Source, K: Sink, C: Clock, D: Datagrams>(
     requires { (D.told socket.old).row ≡ 0 }
     ensures begun { result ≢ Status.Usage }
     // What the clients did, and by the status what was taken and written.
-    ensures ends { NasEnds result place patience (S.left input.old) (S.left input.new) (K.written output.old) (K.written output.new)
+    ensures ends { NasEnds result place patience (S.left input.old) (S.left input.new)
+        (K.written output.old) (K.written output.new)
         (C.readings clock.old) (C.readings clock.new) (D.told socket.old) (D.told socket.new) }
     ensures numbered { (line reason : ℕ) → result ≡ Status.BadTranscript line reason → 0 < line }
     // When each fault comes.
     ensures fault { (result ≡ Status.DatagramFault) ↔ ((D.told socket.new).row ≡ 16) }
-    ensures counts { EndsCounts result (S.ends input.old) (S.ends input.new) (S.faults input.old) (S.faults input.new)
+    ensures counts { EndsCounts result (S.ends input.old) (S.ends input.new) (S.faults input.old)
+        (S.faults input.new)
         (K.faults output.old) (K.faults output.new) }
-    ensures rose { result ≡ Status.DatagramFault → Rose (D.told socket.old).faults (D.told socket.new).faults }
-    ensures complete { (X : List ℕ) → S.left input.old ≡ Some X → AllByRecursion (λ line. IsOk (packet_in line)) (lines_of X) → length X ≤ most_octets
-        → ¬ Rose (S.faults input.old) (S.faults input.new) → ¬ Rose (K.faults output.old) (K.faults output.new)
+    ensures rose { result ≡ Status.DatagramFault
+        → Rose (D.told socket.old).faults (D.told socket.new).faults }
+    ensures complete { (X : List ℕ) → S.left input.old ≡ Some X
+        → AllByRecursion (λ line. IsOk (packet_in line)) (lines_of X) → length X ≤ most_octets
+        → ¬ Rose (S.faults input.old) (S.faults input.new)
+        → ¬ Rose (K.faults output.old) (K.faults output.new)
         → ¬ Rose (D.told socket.old).faults (D.told socket.new).faults
         → (result ≡ Status.Done) ⊎ (result ≡ Status.OutOfMemory) }
 {

@@ -104,7 +104,8 @@ impl Stores {
 
     /// The row to which the index of keys leads.
     fn hinted_by_key(&self, key: &Key) -> Option<&Row>
-        ensures { option_copied result ≡ option_and_then (row_at self.now) (get parts.same_key self.now.keys key.now) }
+        ensures { option_copied result
+            ≡ option_and_then (row_at self.now) (get parts.same_key self.now.keys key.now) }
     {
         let place = self.keys.get(&SharedKey::lent(key)).copied()?;
         self.at(place)
@@ -122,7 +123,8 @@ impl Stores {
 
     /// The row to which the index of numbers leads.
     fn hinted_by_number(&self, number: Number) -> Option<&Row>
-        ensures { option_copied result ≡ option_and_then (waiting_at self.now) (get same_number self.now.numbers number) }
+        ensures { option_copied result
+            ≡ option_and_then (waiting_at self.now) (get same_number self.now.numbers number) }
     {
         match self.numbers.get(&number) {
             None => None,
@@ -151,7 +153,8 @@ impl Stores {
     #[tactic(auto, using(crate::proofs::Kept::live_on))]
     fn dead_waiting(&self, moment: u64) -> usize
         requires { Pairs (ends_before self.now) (values self.now.waiting) }
-        ensures { result + length (filter (is_live self.now moment) (values self.now.waiting)) ≡ btree_map_len self.now.waiting }
+        ensures { result + length (filter (is_live self.now moment) (values self.now.waiting))
+            ≡ btree_map_len self.now.waiting }
     {
         let mut dead = 0;
         for row in self.waiting.values() {
@@ -167,7 +170,8 @@ impl Stores {
     #[tactic(auto, using(crate::proofs::Kept::live_on))]
     fn dead_settled(&self, moment: u64) -> usize
         requires { Pairs (ends_before self.now) (rows self.now.settled.items) }
-        ensures { result + length (filter (is_live self.now moment) (rows self.now.settled.items)) ≡ length self.now.settled.items }
+        ensures { result + length (filter (is_live self.now moment) (rows self.now.settled.items))
+            ≡ length self.now.settled.items }
     {
         let mut dead = 0;
         for held in self.settled.iter() {
@@ -199,7 +203,8 @@ impl Stores {
 
     /// The k-th row that waits and lives, counted from 0.
     pub(crate) fn nth_waiting(&self, k: usize, moment: u64) -> Option<&Row>
-        ensures { option_copied result ≡ slice_get (filter (is_live self.now moment) (values self.now.waiting)) k }
+        ensures { option_copied result
+            ≡ slice_get (filter (is_live self.now moment) (values self.now.waiting)) k }
     {
         let mut left = k;
         for row in self.waiting.values() {
@@ -296,7 +301,8 @@ impl Stores {
         requires { IsKept self.old }
         ensures kept { IsKept self.new }
         ensures rest { KeepsRest self.old self.new }
-        ensures live { self.new.settled.items ≡ filter (λ x. is_live self.old moment x.1) self.old.settled.items }
+        ensures live { self.new.settled.items
+            ≡ filter (λ x. is_live self.old moment x.1) self.old.settled.items }
         ensures waiting { waits self.new ≡ waits self.old }
     {
         while self.is_first_settled_dead(moment) {
@@ -382,7 +388,8 @@ impl Stores {
         ensures kept { IsKept self.new }
         ensures whole { IsWhole self.new }
         ensures times { HasSameTimes self.old self.new }
-        ensures ok { OnOk result (all self.new ≡ filter (is_live self.old moment) (all self.old) ++ (key, entry) ∷ []) }
+        ensures ok { OnOk result
+            (all self.new ≡ filter (is_live self.old moment) (all self.old) ++ (key, entry) ∷ []) }
         ensures err { OnErr result (all self.new ≡ all self.old) }
     {
         // As many rows are never taken up.
@@ -403,13 +410,16 @@ impl Stores {
         requires whole { IsWhole self.old }
         requires found { IsSome (by_number self.old link number) }
         requires answered { parts.is_waiting answer ≡ false }
-        requires last { AllByRecursion (λ r. parts.ends self.old.patience self.old.retention r.1.taken r.1.answer
-            ≤ parts.ends self.old.patience self.old.retention 0 answer) (rows self.old.settled.items) }
+        requires last { AllByRecursion
+            (λ r. parts.ends self.old.patience self.old.retention r.1.taken r.1.answer
+            ≤ parts.ends self.old.patience self.old.retention 0 answer)
+            (rows self.old.settled.items) }
         ensures kept { IsKept self.new }
         ensures whole { IsWhole self.new }
         ensures times { HasSameTimes self.old self.new }
         ensures rows { all self.new
-            ≡ parts.update_first (λ e. parts.is_waiting e.answer && parts.has_number link number e) (λ e. record e { answer = answer })
+            ≡ parts.update_first (λ e. parts.is_waiting e.answer && parts.has_number link number e)
+            (λ e. record e { answer = answer })
             (all self.old) }
     {
         let Some(serial) = self.numbers.swap_remove(&Number { link, number }) else {
@@ -438,7 +448,8 @@ impl Stores {
         ensures kept { IsKept self.new }
         ensures whole { IsWhole self.new }
         ensures times { HasSameTimes self.old self.new }
-        ensures rows { all self.new ≡ parts.numbered (parts.is_live_waiting self.old.patience self.old.retention moment) link 0 (all self.old) }
+        ensures rows { all self.new ≡ parts.numbered (parts.is_live_waiting self.old.patience
+            self.old.retention moment) link 0 (all self.old) }
     {
         renumber(
             &mut self.waiting,
@@ -455,7 +466,8 @@ impl Stores {
 /// Gives the live ones of the rows that wait this link and the numbers from 0 on, in their order.
 fn renumber(waiting: &mut BTreeMap<u64, Row>, patience: u64, retention: u64, link: u64, moment: u64)
     requires { length waiting.old.entries < 2 ^ 32 }
-    ensures { waiting.new.entries ≡ renumbered (parts.is_live_waiting patience retention moment) link 0 waiting.old.entries }
+    ensures { waiting.new.entries
+        ≡ renumbered (parts.is_live_waiting patience retention moment) link 0 waiting.old.entries }
 {
     let mut next: u32 = 0;
     // All rows stay. `retain` lends each of them in turn, to be written.

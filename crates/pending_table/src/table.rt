@@ -45,7 +45,8 @@ impl Table {
         patience: u64,
         retention: u64,
     ) -> Result<Table, NoMemory>
-        ensures { IfOk result (λ t. t ≡ record { capacity = capacity; patience = patience; retention = retention; entries = [] }) }
+        ensures { IfOk result (λ t. t ≡ record
+            { capacity = capacity; patience = patience; retention = retention; entries = [] }) }
     {
         let stores = Stores::new(alloc, random, capacity, patience, retention)?;
         let garbage = Garbage::new(alloc)?;
@@ -112,7 +113,8 @@ impl Table {
 
     /// The live request that waits for the answer with this number on this link.
     pub fn find(&self, link: u64, number: u32, moment: u64) -> Option<&Entry>
-        ensures entry { option_copied result ≡ option_map (λ r. r.1) (parts.find_number self.now link number moment) }
+        ensures entry { option_copied result
+            ≡ option_map (λ r. r.1) (parts.find_number self.now link number moment) }
         ensures found { IsSome result → IsSome (parts.find_number self.now link number moment) }
     {
         match self.row_of_number(link, number, moment) {
@@ -150,10 +152,13 @@ impl Table {
     ) -> Result<(), NoMemory>
         requires unknown { parts.find_key self.old key moment ≡ None }
         requires room { length (parts.live self.old moment) < self.old.capacity }
-        requires unused { All (λ r. parts.has_number link number r.1 ≡ false) (parts.live self.old moment) }
+        requires unused { All (λ r. parts.has_number link number r.1 ≡ false)
+            (parts.live self.old moment) }
         requires in_order { All (λ r. parts.IsBy moment r.1) (parts.live self.old moment) }
-        ensures ok { OnOk result (self.new ≡ record self.old
-            { entries = parts.live self.old moment ++ (key, parts.new_entry key link number kept sent moment) ∷ [] }) }
+        ensures ok { OnOk result (self.new ≡ record self.old {
+          entries = parts.live self.old moment
+              ++ (key, parts.new_entry key link number kept sent moment) ∷ [];
+        }) }
         ensures err { OnErr result (self.new ≡ self.old) }
     {
         let entry = Entry::waiting(&key, link, number, kept, sent, moment);
@@ -165,7 +170,8 @@ impl Table {
     pub fn settle(&mut self, link: u64, number: u32, moment: u64, reply: Option<Octets>)
         requires awaited { IsSome (parts.find_number self.old link number moment) }
         requires in_order { All (λ r. parts.IsBy moment r.1) (parts.live self.old moment) }
-        ensures { self.new ≡ record self.old { entries = parts.settled self.old link number moment reply } }
+        ensures { self.new
+            ≡ record self.old { entries = parts.settled self.old link number moment reply } }
     {
         self.garbage.free_reply();
         let answer = Answer::given(moment, reply);

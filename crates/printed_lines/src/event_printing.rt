@@ -21,7 +21,8 @@ fn name_line(alloc: Global, moment: u64, name: &str) -> Result<Octets, NoMemory>
 
 /// The line of octets of the link.
 fn link_line(alloc: Global, moment: u64, octets: &[u8]) -> Result<Octets, NoMemory>
-    ensures { IfOk result (λ o. o ≡ text.line_text (decimal moment ∷ codes "link" ∷ text.hex_text octets.now ∷ [])) }
+    ensures { IfOk result
+        (λ o. o ≡ text.line_text (decimal moment ∷ codes "link" ∷ text.hex_text octets.now ∷ [])) }
 {
     with_hex(format!(in alloc; "{moment} link ")?, octets)
 }
@@ -37,7 +38,8 @@ fn datagram_line(
     octets: &[u8],
 ) -> Result<Octets, NoMemory>
     ensures { IfOk result (λ o. o ≡ text.line_text
-        (decimal moment ∷ text.via_name via ∷ text.address_text address ∷ decimal port ∷ text.hex_text octets.now ∷ [])) }
+        (decimal moment ∷ text.via_name via ∷ text.address_text address ∷ decimal port
+        ∷ text.hex_text octets.now ∷ [])) }
 {
     let via = via_name(via);
     let [a, b, c, d] = address.to_be_bytes();

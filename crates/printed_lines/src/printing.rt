@@ -45,7 +45,8 @@ pub fn with_hex(start: String, octets: &[u8]) -> Result<Octets, NoMemory>
 
 /// The line of a message that was sent.
 fn send_line(alloc: Global, line: u64, octets: &[u8]) -> Result<Octets, NoMemory>
-    ensures { IfOk result (λ o. o ≡ text.line_text (decimal line ∷ codes "send" ∷ text.hex_text octets.now ∷ [])) }
+    ensures { IfOk result
+        (λ o. o ≡ text.line_text (decimal line ∷ codes "send" ∷ text.hex_text octets.now ∷ [])) }
 {
     with_hex(format!(in alloc; "{line} send ")?, octets)
 }
@@ -71,7 +72,8 @@ fn reply_line(
     octets: &[u8],
 ) -> Result<Octets, NoMemory>
     ensures { IfOk result (λ o. o ≡ text.line_text
-        (decimal line ∷ codes "reply" ∷ text.via_name via ∷ text.address_text address ∷ decimal port ∷ text.hex_text octets.now ∷ [])) }
+        (decimal line ∷ codes "reply" ∷ text.via_name via ∷ text.address_text address ∷ decimal port
+        ∷ text.hex_text octets.now ∷ [])) }
 {
     let via = via_name(via);
     let [a, b, c, d] = address.to_be_bytes();
@@ -172,7 +174,8 @@ fn name_line(alloc: Global, line: u64, name: &str) -> Result<Octets, NoMemory>
 
 /// The line of a link that was closed, with its cause's name and code.
 fn code_line(alloc: Global, line: u64, name: &str, code: u32) -> Result<Octets, NoMemory>
-    ensures { IfOk result (λ o. o ≡ text.line_text (decimal line ∷ codes "close" ∷ name.now ∷ decimal code ∷ [])) }
+    ensures { IfOk result
+        (λ o. o ≡ text.line_text (decimal line ∷ codes "close" ∷ name.now ∷ decimal code ∷ [])) }
 {
     let text = format!(in alloc; "{line} close {name} {code}\n")?;
     Ok(Octets::from_vec(text.into_bytes()))
@@ -180,7 +183,8 @@ fn code_line(alloc: Global, line: u64, name: &str, code: u32) -> Result<Octets, 
 
 /// The line of a link that was closed, with its cause's name and its fault's.
 fn fault_line(alloc: Global, line: u64, name: &str, fault: &str) -> Result<Octets, NoMemory>
-    ensures { IfOk result (λ o. o ≡ text.line_text (decimal line ∷ codes "close" ∷ name.now ∷ fault.now ∷ [])) }
+    ensures { IfOk result
+        (λ o. o ≡ text.line_text (decimal line ∷ codes "close" ∷ name.now ∷ fault.now ∷ [])) }
 {
     let text = format!(in alloc; "{line} close {name} {fault}\n")?;
     Ok(Octets::from_vec(text.into_bytes()))

@@ -43,7 +43,8 @@ fn address_word(alloc: Global, address: u32) -> Result<Vec<u8>, NoMemory>
 
 /// Appends addresses, each behind a `,`.
 fn push_further(alloc: Global, word: &mut Vec<u8>, addresses: &[u32]) -> Result<(), NoMemory>
-    ensures { OnOk result (word.new.items ≡ word.old.items ++ flat_map settings.further_text addresses.now) }
+    ensures { OnOk result
+        (word.new.items ≡ word.old.items ++ flat_map settings.further_text addresses.now) }
 {
     for address in addresses {
         word.push(b',')?;

@@ -49,7 +49,8 @@ fn append(octets: &mut Vec<u8>, piece: &[u8])
 /// Puts the Message-Authenticator into its place, the value of the first attribute.
 fn seal(octets: &mut [u8], secret: &[u8])
     requires { 38 ≤ length octets.old }
-    ensures { octets.new ≡ take 22 octets.old ++ hmac_of secret.now octets.old ++ drop 38 octets.old }
+    ensures { octets.new
+        ≡ take 22 octets.old ++ hmac_of secret.now octets.old ++ drop 38 octets.old }
 {
     let value = hmac(secret, octets);
     octets[22..38].copy_from_slice(&value);
@@ -58,7 +59,8 @@ fn seal(octets: &mut [u8], secret: &[u8])
 /// Puts the Response Authenticator in place of the request's.
 fn sign(octets: &mut [u8], secret: &[u8])
     requires { 20 ≤ length octets.old }
-    ensures { octets.new ≡ take 4 octets.old ++ md5 (octets.old ++ secret.now) ++ drop 20 octets.old }
+    ensures { octets.new
+        ≡ take 4 octets.old ++ md5 (octets.old ++ secret.now) ++ drop 20 octets.old }
 {
     let mut hasher = Md5::new();
     hasher.update(&*octets);
@@ -81,7 +83,8 @@ fn complete(octets: &mut [u8], sealed: bool, secret: &[u8])
 /// Makes the signed packet of a draft.
 fn fill(octets: &mut [u8], sealed: bool, secret: &[u8])
     requires { IsDraft sealed octets.old }
-    ensures { let r = draft_in sealed octets.old in octets.new ≡ reply_text secret.now r.request r.code r.id sealed r.attributes }
+    ensures { let r = draft_in sealed octets.old in octets.new
+        ≡ reply_text secret.now r.request r.code r.id sealed r.attributes }
 {
     complete(octets, sealed, secret);
     sign(octets, secret);
@@ -97,7 +100,8 @@ impl Reply {
         request: [u8; 16],
         sealed: bool,
     ) -> Result<Reply, NoMemory>
-        ensures { IfOk result (λ r. r ≡ record { code = code; id = id; request = request; sealed = sealed; attributes = [] }) }
+        ensures { IfOk result (λ r. r ≡ record
+            { code = code; id = id; request = request; sealed = sealed; attributes = [] }) }
     {
         let mut octets = Vec::with_capacity(alloc, MOST)?;
         append(&mut octets, &[code, id, 0, 0]);
@@ -112,7 +116,10 @@ impl Reply {
     /// Puts an attribute at the end. The reply is unchanged where there is no room.
     pub fn push(&mut self, code: u8, value: &[u8]) -> Result<(), Full>
         ensures room { is_ok result ≡ has_room self.old value.now }
-        ensures ok { OnOk result (self.new ≡ record self.old { attributes = self.old.attributes ++ record { code = code; value = value.now } ∷ [] }) }
+        ensures ok { OnOk result (self.new ≡ record self.old {
+          attributes = self.old.attributes
+              ++ record { code = code; value = value.now } ∷ [];
+        }) }
         ensures err { OnErr result (self.new ≡ self.old) }
     {
         if value.len() > 253 || self.octets.len() + 2 + value.len() > MOST {
@@ -128,7 +135,8 @@ impl Reply {
     pub fn push_joined(&mut self, attributes: &[u8]) -> Result<(), Full>
         requires { attributes.now ≡ attributes_text (attributes_in attributes.now) }
         ensures room { is_ok result ≡ nat_le (reply_length self.old + length attributes.now) 4096 }
-        ensures ok { OnOk result (self.new ≡ record self.old { attributes = self.old.attributes ++ attributes_in attributes.now }) }
+        ensures ok { OnOk result (self.new ≡ record self.old
+            { attributes = self.old.attributes ++ attributes_in attributes.now }) }
         ensures err { OnErr result (self.new ≡ self.old) }
     {
         if self.octets.len() + attributes.len() <= MOST {
@@ -142,12 +150,14 @@ impl Reply {
     /// The signed packet: the Message-Authenticator, where there is one, and then the Response Authenticator are
     /// filled in. Its octets still have the room of the longest packet; a copy has its own size.
     pub fn finish(self, secret: &[u8]) -> Octets
-        ensures text { result ≡ reply_text secret.now self.request self.code self.id self.sealed self.attributes }
+        ensures text { result
+            ≡ reply_text secret.now self.request self.code self.id self.sealed self.attributes }
         ensures packet { (a : List ℕ) × IsPacket result (record {
           code = self.code;
           id = self.id;
           authenticator = a;
-          attributes = sealed_attributes secret.now self.request self.code self.id self.sealed self.attributes;
+          attributes = sealed_attributes secret.now self.request self.code self.id self.sealed
+              self.attributes;
         }) }
         ensures signed { Signed secret.now self.request self.sealed result }
     {

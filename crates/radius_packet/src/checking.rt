@@ -67,7 +67,8 @@ fn seal_with_zeros(octets: &[u8], authenticator: &[u8; 16], place: usize, secret
     requires behind { 20 ≤ place }
     requires inside { place + 16 ≤ length octets.now }
     ensures { result ≡ hmac_of secret.now
-        (take 4 octets.now ++ authenticator.now ++ octets_at octets.now 20 (place - 20) ++ replicate 16 0 ++ drop (place + 16) octets.now) }
+        (take 4 octets.now ++ authenticator.now ++ octets_at octets.now 20 (place - 20)
+        ++ replicate 16 0 ++ drop (place + 16) octets.now) }
 {
     let mut code = Hmac::new(secret);
     code.update(&octets[..4]);
@@ -82,7 +83,8 @@ fn seal_with_zeros(octets: &[u8], authenticator: &[u8; 16], place: usize, secret
 /// its own.
 fn test_seal(octets: &[u8], authenticator: &[u8; 16], place: usize, secret: &[u8]) -> Seal
     requires { (p : PacketParts) × SealAt octets.now p place }
-    ensures { (p : PacketParts) → SealAt octets.now p place → result ≡ seal_of secret.now (with_authenticator authenticator.now p) }
+    ensures { (p : PacketParts) → SealAt octets.now p place
+        → result ≡ seal_of secret.now (with_authenticator authenticator.now p) }
 {
     let end = place + octets[place + 1] as usize;
     if end != place + 18 || has_seal(&octets[end..]) {

@@ -53,12 +53,14 @@ impl<'a> Packet<'a> {
         ensures found { IfOk result (λ p. IsPacket (whole octets.now) p) }
         ensures only { (p : PacketParts) → IsPacket (whole octets.now) p → result ≡ Ok p }
         // Which fault it is, and at which place.
-        ensures place { (place : ℕ) → result ≡ Err (PacketFault.BadAttribute place) → BreaksAt (whole octets.now) place }
+        ensures place { (place : ℕ) → result ≡ Err (PacketFault.BadAttribute place)
+            → BreaksAt (whole octets.now) place }
         ensures exact { result ≡ read_packet octets.now }
         // Exactly when each fault comes.
         ensures short { (result ≡ Err PacketFault.Short) ↔ IsShort octets.now }
         ensures bad_length { (result ≡ Err PacketFault.BadLength) ↔ HasBadLength octets.now }
-        ensures bad_attribute { (place : ℕ) → (result ≡ Err (PacketFault.BadAttribute place)) ↔ HasBadAttribute octets.now place }
+        ensures bad_attribute { (place : ℕ)
+            → (result ≡ Err (PacketFault.BadAttribute place)) ↔ HasBadAttribute octets.now place }
     {
         Packet::read(octets)
     }

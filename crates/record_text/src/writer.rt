@@ -57,9 +57,12 @@ impl<R, K> RecordText<R, K> {
 impl<R, K: Sink> RecordText<R, K> {
     /// Writes the lines of the settings that a run has, before its first entry.
     pub fn begin(&mut self, config: &Config) -> Result<(), Status>
-        ensures done { IfOk result (λ _. Appends (K.written self.old.sink) (K.written self.new.sink) (settings_text config.now)) }
-        ensures failed { IfErr result (λ status. ((status ≡ WriteFault) × Rose (K.faults self.old.sink) (K.faults self.new.sink)) ⊎ (status ≡ OutOfMemory)) }
-        ensures cut { IfErr result (λ _. AppendsPrefix (K.written self.old.sink) (K.written self.new.sink) (settings_text config.now)) }
+        ensures done { IfOk result (λ _. Appends (K.written self.old.sink) (K.written self.new.sink)
+            (settings_text config.now)) }
+        ensures failed { IfErr result (λ status. ((status ≡ WriteFault)
+            × Rose (K.faults self.old.sink) (K.faults self.new.sink)) ⊎ (status ≡ OutOfMemory)) }
+        ensures cut { IfErr result (λ _. AppendsPrefix (K.written self.old.sink)
+            (K.written self.new.sink) (settings_text config.now)) }
         ensures faults { self.new.faults ≡ self.old.faults }
     {
         let Ok(lines) = print_settings(self.alloc, config) else {
@@ -86,7 +89,8 @@ fn lines_of(alloc: Global, entries: &[Entry]) -> Result<Vec<u8>, NoMemory>
 
 /// Writes the lines of these entries at once. It says whether they were written whole.
 fn write_piece<K: Sink>(alloc: Global, sink: &mut K, entries: &[Entry]) -> bool
-    ensures { WroteLines (not result) (K.written sink.old) (K.written sink.new) (text_of entries.now) }
+    ensures { WroteLines (not result) (K.written sink.old) (K.written sink.new)
+        (text_of entries.now) }
 {
     match lines_of(alloc, entries) {
         Ok(lines) => matches!(sink.write(lines.as_slice()), Put::Done),
@@ -96,7 +100,8 @@ fn write_piece<K: Sink>(alloc: Global, sink: &mut K, entries: &[Entry]) -> bool
 
 /// Writes the lines of these entries, piece by piece, until one can't be written whole. It says whether all were.
 fn write_lines<K: Sink>(alloc: Global, sink: &mut K, entries: &[Entry]) -> bool
-    ensures { WroteLines (not result) (K.written sink.old) (K.written sink.new) (text_of entries.now) }
+    ensures { WroteLines (not result) (K.written sink.old) (K.written sink.new)
+        (text_of entries.now) }
 {
     for piece in entries.chunks(PIECE) {
         if !write_piece(alloc, sink, piece) {

@@ -79,8 +79,10 @@ fn write_output<K: Sink>(
     output: &Output,
     sink: &mut K,
 ) -> Result<(), Status>
-    ensures written { OnOk result (Appends (K.written sink.old) (K.written sink.new) (output_line number output.now)) }
-    ensures part { AppendsPrefix (K.written sink.old) (K.written sink.new) (output_line number output.now) }
+    ensures written { OnOk result
+        (Appends (K.written sink.old) (K.written sink.new) (output_line number output.now)) }
+    ensures part { AppendsPrefix (K.written sink.old) (K.written sink.new)
+        (output_line number output.now) }
     ensures fault { result ≡ Err Status.WriteFault → Rose (K.faults sink.old) (K.faults sink.new) }
     ensures failure { IfErr result IsFailure }
     ensures faults_stay { K.faults sink.old ≤ K.faults sink.new }
@@ -102,8 +104,10 @@ fn write_outputs<K: Sink>(
     sink: &mut K,
 ) -> Result<(), Status>
     ensures written { OnOk result
-        (Appends (K.written sink.old) (K.written sink.new) (flat_map (output_line number) outputs.now)) }
-    ensures part { AppendsPrefix (K.written sink.old) (K.written sink.new) (flat_map (output_line number) outputs.now) }
+        (Appends (K.written sink.old) (K.written sink.new)
+        (flat_map (output_line number) outputs.now)) }
+    ensures part { AppendsPrefix (K.written sink.old) (K.written sink.new)
+        (flat_map (output_line number) outputs.now) }
     ensures fault { result ≡ Err Status.WriteFault → Rose (K.faults sink.old) (K.faults sink.new) }
     ensures failure { IfErr result IsFailure }
     ensures faults_stay { K.faults sink.old ≤ K.faults sink.new }

@@ -100,7 +100,8 @@ impl Ledger {
     /// What is known of a key.
     fn found(&self, key: &Key, moment: u64) -> Found<'_>
         requires { IsSound self.now }
-        ensures { found_view result ≡ history.known key.now self.now.open_ones.list (kept_in (state_of self.now) moment) }
+        ensures { found_view result
+            ≡ history.known key.now self.now.open_ones.list (kept_in (state_of self.now) moment) }
     {
         match self.standing(key) {
             None => Found::Unknown,
@@ -119,7 +120,8 @@ impl Ledger {
     /// Whether no further request may be taken up.
     fn is_full(&self, moment: u64) -> bool
         requires { IsSound self.now }
-        ensures { result ≡ history.is_full self.now.open_ones.list (kept_in (state_of self.now) moment) self.now.open_ones.next }
+        ensures { result ≡ history.is_full self.now.open_ones.list
+            (kept_in (state_of self.now) moment) self.now.open_ones.next }
     {
         MOST <= self.open_ones.len() + self.kept.count(self.own.retention, moment)
             || self.open_ones.find(self.next_identifier()).is_some()
@@ -129,7 +131,8 @@ impl Ledger {
     fn refuse(&self, alloc: Global, request: &[u8], code: u32) -> Result<Considered, NoMemory>
         requires sound { IsSound self.now }
         requires asked { IsSome (asking.request_in request.now) }
-        ensures { asking.ForRequest request.now (λ q. IfOk result (λ c. c ≡ Says (Answer (refusal self.now.own q code)))) }
+        ensures { asking.ForRequest request.now
+            (λ q. IfOk result (λ c. c ≡ Says (Answer (refusal self.now.own q code)))) }
     {
         let octets = refuse(alloc, &self.own, request, code)?;
         Ok(Considered::Says {
@@ -147,7 +150,12 @@ impl Ledger {
     ) -> Result<Considered, NoMemory>
         requires asked { IsSome (asking.request_in request.now) }
         requires packet { 20 ≤ length packet }
-        ensures { IfOk result (λ c. c ≡ Takes (record { number = self.now.open_ones.next; key = key; request = request.now; sent = packet })) }
+        ensures { IfOk result (λ c. c ≡ Takes (record {
+          number = self.now.open_ones.next;
+          key = key;
+          request = request.now;
+          sent = packet;
+        })) }
     {
         Ok(Considered::Takes {
             taken: Taken {
@@ -173,8 +181,10 @@ impl Ledger {
         requires served { IsTrue (asking.is_served message.now.header) }
         requires asked { IsSome (asking.asked_in (message_view message.now)) }
         requires key { asking.ForAsked (message_view message.now) (λ q. key ≡ keys.key_of q) }
-        ensures { asking.ForAsked (message_view message.now) (λ q. IfOk result (Considers (history.translated self.now.own self.now.open_ones.next octets.now q
-            (request_image (asking.direction_of q.header) (self.now.open_ones.next % 256) random self.now.own.secret q.avps)))) }
+        ensures { asking.ForAsked (message_view message.now) (λ q. IfOk result
+            (Considers (history.translated self.now.own self.now.open_ones.next octets.now q
+            (request_image (asking.direction_of q.header) (self.now.open_ones.next % 256) random
+            self.now.own.secret q.avps)))) }
     {
         let id = self.next_identifier();
         match packet(alloc, message, id, random, self.own.secret.as_slice()) {
@@ -200,7 +210,8 @@ impl Ledger {
         requires served { IsTrue (asking.is_served message.now.header) }
         requires asked { IsSome (asking.asked_in (message_view message.now)) }
         requires key { asking.ForAsked (message_view message.now) (λ q. key ≡ keys.key_of q) }
-        ensures { asking.ForAsked (message_view message.now) (λ q. IfOk result (Considers (history.on_unknown self.now.own self.now.open_ones.list
+        ensures { asking.ForAsked (message_view message.now)
+            (λ q. IfOk result (Considers (history.on_unknown self.now.own self.now.open_ones.list
             (kept_in (state_of self.now) moment) self.now.open_ones.next octets.now random q))) }
     {
         if self.is_full(moment) {
@@ -225,8 +236,10 @@ impl Ledger {
         requires served { IsTrue (asking.is_served message.now.header) }
         requires asked { IsSome (asking.asked_in (message_view message.now)) }
         requires key { asking.ForAsked (message_view message.now) (λ q. key ≡ keys.key_of q) }
-        ensures { asking.ForAsked (message_view message.now) (λ q. IfOk result (Considers (history.on_asked self.now.own self.now.open_ones.list
-            (kept_in (state_of self.now) moment) self.now.open_ones.next octets.now random (Some q)))) }
+        ensures { asking.ForAsked (message_view message.now)
+            (λ q. IfOk result (Considers (history.on_asked self.now.own self.now.open_ones.list
+            (kept_in (state_of self.now) moment) self.now.open_ones.next octets.now random
+            (Some q)))) }
     {
         match self.found(&key, moment) {
             Found::Open => Ok(drop_as(ReverseReason::Open)),
@@ -244,7 +257,8 @@ impl Ledger {
         random: [u8; 16],
     ) -> Result<Considered, NoMemory>
         requires { IsSound self.now }
-        ensures { IfOk result (Considers (history.on_request self.now.own self.now.open_ones.list (kept_in (state_of self.now) moment)
+        ensures { IfOk result (Considers (history.on_request self.now.own self.now.open_ones.list
+            (kept_in (state_of self.now) moment)
             self.now.open_ones.next octets.now random)) }
     {
         let Ok(message) = parse(octets) else {

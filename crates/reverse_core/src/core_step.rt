@@ -43,7 +43,8 @@ impl Ledger {
     ) -> Result<ReverseOutputs, NoMemory>
         requires sound { IsSound self.old }
         requires late { self.old.moment ≤ moment }
-        ensures ok { IfOk result (Leads moment (history.on_request self.old.own self.old.open_ones.list (kept_in (state_of self.old) moment)
+        ensures ok { IfOk result (Leads moment (history.on_request self.old.own
+            self.old.open_ones.list (kept_in (state_of self.old) moment)
             self.old.open_ones.next octets.now random) (state_of self.old) (state_of self.new)) }
         ensures sound { IsSound self.new }
         ensures err { OnErr result (state_of self.new ≡ state_of self.old) }
@@ -63,7 +64,8 @@ impl Ledger {
     ) -> Result<ReverseOutputs, NoMemory>
         requires { IsSound self.old }
         ensures ok { let at = max self.old.moment moment in
-            IfOk result (Leads at (outcome_of (state_of self.old) at input.now) (state_of self.old) (state_of self.new)) }
+            IfOk result (Leads at (outcome_of (state_of self.old) at input.now) (state_of self.old)
+            (state_of self.new)) }
         ensures sound { IsSound self.new }
         ensures err { OnErr result (state_of self.new ≡ state_of self.old) }
     {
@@ -99,10 +101,12 @@ impl ReverseCore {
         moment: u64,
         input: &ReverseInput,
     ) -> Result<ReverseOutputs, NoMemory>
-        ensures answers { (H : List ReverseEvent) → ReverseStandsFor self.old H → IfOk result (λ o. o
+        ensures answers { (H : List ReverseEvent) → ReverseStandsFor self.old H
+            → IfOk result (λ o. o
             ≡ outputs_after self.old.own H (record { moment = moment; input = input.now })) }
         ensures stands { (H : List ReverseEvent) → ReverseStandsFor self.old H
-            → OnOk result (ReverseStandsFor self.new (H ++ record { moment = moment; input = input.now } ∷ [])) }
+            → OnOk result
+            (ReverseStandsFor self.new (H ++ record { moment = moment; input = input.now } ∷ [])) }
         ensures own { self.new.own ≡ self.old.own }
         ensures err { OnErr result (self.new ≡ self.old) }
     {

@@ -76,7 +76,8 @@ impl KeptAnswers {
     /// Puts in one more, for which there is room.
     pub(crate) fn push(&mut self, answer: KeptAnswer)
         requires { length self.old.list < 4096 }
-        ensures { self.new ≡ record { dropped = self.old.dropped; list = self.old.list ++ answer ∷ [] } }
+        ensures { self.new
+            ≡ record { dropped = self.old.dropped; list = self.old.list ++ answer ∷ [] } }
     {
         // This says that the count is the length of the list.
         let _ = self.list.as_slices();
@@ -96,8 +97,10 @@ impl KeptAnswers {
     /// Takes out the first, where it is past its time.
     pub(crate) fn pop_past(&mut self, retention: u64, moment: u64) -> Option<KeptAnswer>
         requires { self.old.dropped + length self.old.list < 2 ^ 64 }
-        ensures some { IfSome result (λ k. (self.old.list ≡ k ∷ self.new.list) × (nat_lt moment (k.at + retention) ≡ false) × (self.new.dropped ≡ self.old.dropped + 1)) }
-        ensures none { IfNone result ((self.new ≡ self.old) × (is_first (λ k. not (nat_lt moment (k.at + retention))) self.old.list ≡ false)) }
+        ensures some { IfSome result (λ k. (self.old.list ≡ k ∷ self.new.list) × (nat_lt moment
+            (k.at + retention) ≡ false) × (self.new.dropped ≡ self.old.dropped + 1)) }
+        ensures none { IfNone result ((self.new ≡ self.old)
+            × (is_first (λ k. not (nat_lt moment (k.at + retention))) self.old.list ≡ false)) }
     {
         // This says that the count is the length of the list.
         let _ = self.list.as_slices();
@@ -114,7 +117,8 @@ impl KeptAnswers {
 #[tactic(auto, using(crate::proofs::KeptLemmas::kept_on))]
 fn count_past(list: &VecDeque<KeptAnswer>, retention: u64, moment: u64) -> usize
     requires { Pairs IsNoLater list.now.items }
-    ensures { result + length (filter (λ k. nat_lt moment (k.at + retention)) list.now.items) ≡ length list.now.items }
+    ensures { result + length (filter (λ k. nat_lt moment (k.at + retention)) list.now.items)
+        ≡ length list.now.items }
 {
     let mut past = 0;
     for held in list.iter() {

@@ -63,8 +63,13 @@ pub(crate) fn keep(
     requires room { length kept.old.list < 4096 }
     requires fits { kept.old.dropped + length kept.old.list < 2 ^ 64 }
     ensures index { (q : Key) → get same_key index.new q
-        ≡ cond (same_key taken.key q) (Some (Standing.Kept (kept.old.dropped + length kept.old.list))) (get same_key index.old q) }
-    ensures kept { kept.new ≡ record { dropped = kept.old.dropped; list = kept.old.list ++ kept_answer taken moment answer ∷ [] } }
+        ≡ cond (same_key taken.key q) (Some
+        (Standing.Kept (kept.old.dropped + length kept.old.list))) (get same_key index.old q) }
+    ensures kept { kept.new ≡ record {
+      dropped = kept.old.dropped;
+      list = kept.old.list
+          ++ kept_answer taken moment answer ∷ [];
+    } }
 {
     let count = kept.given();
     if let Some(standing) = index.get_mut(&taken.key) {
@@ -84,7 +89,8 @@ impl Ledger {
         requires host { length own.host ≤ 64 }
         requires realm { length own.realm ≤ 64 }
         ensures sound { IfOk result IsSound }
-        ensures empty { IfOk result (λ l. state_of l ≡ record { own = own; count = 0; open_ones = []; kept = []; moment = 0 }) }
+        ensures empty { IfOk result (λ l. state_of l
+            ≡ record { own = own; count = 0; open_ones = []; kept = []; moment = 0 }) }
     {
         // One place more, so that no more room is made later.
         let room = MOST + 1;
@@ -103,7 +109,8 @@ impl Ledger {
         ensures sound { IsSound self.new }
         ensures own { self.new.own ≡ self.old.own }
         ensures open_ones { self.new.open_ones ≡ self.old.open_ones }
-        ensures kept { self.new.kept.list ≡ filter (is_kept self.old.own moment) self.old.kept.list }
+        ensures kept { self.new.kept.list
+            ≡ filter (is_kept self.old.own moment) self.old.kept.list }
         ensures moment { self.new.moment ≡ self.old.moment }
         ensures room { spare self.old.index ≤ spare self.new.index }
     {
@@ -117,13 +124,15 @@ impl Ledger {
     fn enter(&mut self, key: SharedKey<'static, Key>, taken: Taken, moment: u64)
         requires sound { IsSound self.old }
         requires key { key ≡ taken.key }
-        requires may { MayTake self.old.open_ones.list self.old.kept.list self.old.open_ones.next taken }
+        requires may { MayTake self.old.open_ones.list self.old.kept.list self.old.open_ones.next
+            taken }
         requires room { 0 < spare self.old.index }
         requires fits { self.old.open_ones.next + 1 < 2 ^ 64 }
         requires late { self.old.moment ≤ moment }
         ensures sound { IsSound self.new }
         ensures own { self.new.own ≡ self.old.own }
-        ensures open_ones { self.new.open_ones.list ≡ self.old.open_ones.list ++ record { taken = taken; sent = first_sent moment } ∷ [] }
+        ensures open_ones { self.new.open_ones.list
+            ≡ self.old.open_ones.list ++ record { taken = taken; sent = first_sent moment } ∷ [] }
         ensures next { self.new.open_ones.next ≡ self.old.open_ones.next + 1 }
         ensures kept { self.new.kept ≡ self.old.kept }
         ensures moment { self.new.moment ≡ moment }
@@ -143,9 +152,11 @@ impl Ledger {
     ) -> Result<ReverseOutputs, NoMemory>
         requires sound { IsSound self.old }
         requires late { self.old.moment ≤ moment }
-        requires may { MayTake self.old.open_ones.list (kept_in (state_of self.old) moment) self.old.open_ones.next taken }
+        requires may { MayTake self.old.open_ones.list (kept_in (state_of self.old) moment)
+            self.old.open_ones.next taken }
         ensures outputs { IfOk result (λ o. o ≡ Send taken.sent ∷ []) }
-        ensures state { OnOk result (Does moment (Takes taken) (state_of self.old) (state_of self.new)) }
+        ensures state { OnOk result
+            (Does moment (Takes taken) (state_of self.old) (state_of self.new)) }
         ensures sound { IsSound self.new }
         ensures err { OnErr result (state_of self.new ≡ state_of self.old) }
     {
@@ -168,7 +179,8 @@ impl Ledger {
         requires late { self.old.moment ≤ moment }
         requires found { IsSome (find (has_identifier id) self.old.open_ones.list) }
         ensures sound { IsSound self.new }
-        ensures state { (o : OpenRequest) → find (has_identifier id) self.old.open_ones.list ≡ Some o
+        ensures state { (o : OpenRequest)
+            → find (has_identifier id) self.old.open_ones.list ≡ Some o
             → Does moment (Closes o.taken answer) (state_of self.old) (state_of self.new) }
     {
         if let Some(found) = self.open_ones.remove(id) {

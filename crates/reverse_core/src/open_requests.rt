@@ -92,7 +92,8 @@ impl OpenRequests {
         requires free { find (has_identifier (self.old.next % 256)) self.old.list ≡ None }
         requires fits { self.old.next + 1 < 2 ^ 64 }
         requires late { AllByRecursion (λ o. o.sent.last ≤ moment) self.old.list }
-        ensures list { self.new.list ≡ self.old.list ++ record { taken = taken; sent = specs.first_sent moment } ∷ [] }
+        ensures list { self.new.list
+            ≡ self.old.list ++ record { taken = taken; sent = specs.first_sent moment } ∷ [] }
         ensures next { self.new.next ≡ self.old.next + 1 }
     {
         self.first = free_slot(
@@ -110,7 +111,8 @@ impl OpenRequests {
     pub(crate) fn remove(&mut self, id: u8) -> Option<OpenRequest>
         ensures found { result ≡ find (has_identifier id) self.old.list }
         ensures some { IfSome result (λ o. TakesOut o self.old.list self.new.list) }
-        ensures others { IfSome result (λ o. self.new.list ≡ filter (λ x. not (x.taken.number == o.taken.number)) self.old.list) }
+        ensures others { IfSome result (λ o. self.new.list
+            ≡ filter (λ x. not (x.taken.number == o.taken.number)) self.old.list) }
         ensures none { IfNone result (self.new.list ≡ self.old.list) }
         ensures next { self.new.next ≡ self.old.next }
     {
@@ -126,8 +128,10 @@ impl OpenRequests {
 
     /// Takes out the first request whose packet was sent three times and whose answer is overdue, which is the first of all.
     pub(crate) fn pop_spent(&mut self, moment: u64) -> Option<OpenRequest>
-        ensures some { IfSome result (λ o. (self.old.list ≡ o ∷ self.new.list) × (specs.is_spent moment o ≡ true)) }
-        ensures none { IfNone result ((self.new.list ≡ self.old.list) × (filter (specs.is_spent moment) self.old.list ≡ [])) }
+        ensures some { IfSome result
+            (λ o. (self.old.list ≡ o ∷ self.new.list) × (specs.is_spent moment o ≡ true)) }
+        ensures none { IfNone result ((self.new.list ≡ self.old.list)
+            × (filter (specs.is_spent moment) self.old.list ≡ [])) }
         ensures next { self.new.next ≡ self.old.next }
     {
         let before = slots_of(&self.thrice);
@@ -208,7 +212,8 @@ fn peek_in<'a>(
     once: &'a Slots,
     place: usize,
 ) -> Option<&'a OpenRequest>
-    ensures { option_copied result ≡ slot_at (thrice.now.items ++ twice.now.items ++ once.now.items) place }
+    ensures { option_copied result
+        ≡ slot_at (thrice.now.items ++ twice.now.items ++ once.now.items) place }
 {
     if place < slots_of(thrice) {
         return peek(thrice, place);
@@ -242,12 +247,16 @@ fn take_in(
     place: usize,
 ) -> Option<OpenRequest>
     ensures taken { result ≡ slot_at (thrice.old.items ++ twice.old.items ++ once.old.items) place }
-    ensures items { thrice.new.items ++ twice.new.items ++ once.new.items ≡ slice_set (thrice.old.items ++ twice.old.items ++ once.old.items) place None }
-    ensures lengths { HasLengths thrice.new.items twice.new.items once.new.items (length thrice.old.items) (length twice.old.items) (length once.old.items) }
+    ensures items { thrice.new.items ++ twice.new.items ++ once.new.items
+        ≡ slice_set (thrice.old.items ++ twice.old.items ++ once.old.items) place None }
+    ensures lengths { HasLengths thrice.new.items twice.new.items once.new.items
+        (length thrice.old.items) (length twice.old.items) (length once.old.items) }
     ensures thrice { KeepsSent thrice.old.items thrice.new.items }
     ensures twice { KeepsSent twice.old.items twice.new.items }
     ensures once { KeepsSent once.old.items once.new.items }
-    ensures rooms { (deque_capacity thrice.new ≡ deque_capacity thrice.old) × (deque_capacity twice.new ≡ deque_capacity twice.old) × (deque_capacity once.new ≡ deque_capacity once.old) }
+    ensures rooms { (deque_capacity thrice.new ≡ deque_capacity thrice.old)
+        × (deque_capacity twice.new ≡ deque_capacity twice.old)
+        × (deque_capacity once.new ≡ deque_capacity once.old) }
 {
     if place < slots_of(thrice) {
         return take_at(thrice, place);
@@ -271,11 +280,14 @@ fn drop_first(slots: &mut Slots)
 
 /// Drops the first slot of three queues.
 fn drop_first_in(thrice: &mut Slots, twice: &mut Slots, once: &mut Slots)
-    ensures items { thrice.new.items ++ twice.new.items ++ once.new.items ≡ drop 1 (thrice.old.items ++ twice.old.items ++ once.old.items) }
+    ensures items { thrice.new.items ++ twice.new.items ++ once.new.items
+        ≡ drop 1 (thrice.old.items ++ twice.old.items ++ once.old.items) }
     ensures thrice { KeepsSent thrice.old.items thrice.new.items }
     ensures twice { KeepsSent twice.old.items twice.new.items }
     ensures once { KeepsSent once.old.items once.new.items }
-    ensures rooms { (deque_capacity thrice.new ≡ deque_capacity thrice.old) × (deque_capacity twice.new ≡ deque_capacity twice.old) × (deque_capacity once.new ≡ deque_capacity once.old) }
+    ensures rooms { (deque_capacity thrice.new ≡ deque_capacity thrice.old)
+        × (deque_capacity twice.new ≡ deque_capacity twice.old)
+        × (deque_capacity once.new ≡ deque_capacity once.old) }
 {
     if !thrice.is_empty() {
         drop_first(thrice);
@@ -291,18 +303,23 @@ fn drop_first_in(thrice: &mut Slots, twice: &mut Slots, once: &mut Slots)
 fn free_slot(thrice: &mut Slots, twice: &mut Slots, once: &mut Slots, first: u64) -> u64
     requires window { IsNumbered first (thrice.old.items ++ twice.old.items ++ once.old.items) }
     requires few { length thrice.old.items + length twice.old.items + length once.old.items ≤ 256 }
-    requires free { find (has_identifier ((first + length (thrice.old.items ++ twice.old.items ++ once.old.items)) % 256))
+    requires free { find (has_identifier
+        ((first + length (thrice.old.items ++ twice.old.items ++ once.old.items)) % 256))
         (filled (thrice.old.items ++ twice.old.items ++ once.old.items)) ≡ None }
-    requires fits { first + length (thrice.old.items ++ twice.old.items ++ once.old.items) < 2 ^ 64 }
+    requires fits { first + length (thrice.old.items ++ twice.old.items ++ once.old.items)
+        < 2 ^ 64 }
     ensures window { IsNumbered result (thrice.new.items ++ twice.new.items ++ once.new.items) }
     ensures room { length (thrice.new.items ++ twice.new.items ++ once.new.items) < 256 }
     ensures next { result + length (thrice.new.items ++ twice.new.items ++ once.new.items)
         ≡ first + length (thrice.old.items ++ twice.old.items ++ once.old.items) }
-    ensures same { filled (thrice.new.items ++ twice.new.items ++ once.new.items) ≡ filled (thrice.old.items ++ twice.old.items ++ once.old.items) }
+    ensures same { filled (thrice.new.items ++ twice.new.items ++ once.new.items)
+        ≡ filled (thrice.old.items ++ twice.old.items ++ once.old.items) }
     ensures thrice { KeepsSent thrice.old.items thrice.new.items }
     ensures twice { KeepsSent twice.old.items twice.new.items }
     ensures once { KeepsSent once.old.items once.new.items }
-    ensures rooms { (deque_capacity thrice.new ≡ deque_capacity thrice.old) × (deque_capacity twice.new ≡ deque_capacity twice.old) × (deque_capacity once.new ≡ deque_capacity once.old) }
+    ensures rooms { (deque_capacity thrice.new ≡ deque_capacity thrice.old)
+        × (deque_capacity twice.new ≡ deque_capacity twice.old)
+        × (deque_capacity once.new ≡ deque_capacity once.old) }
 {
     if slots_in(thrice, twice, once) < IDENTIFIERS {
         return first;
@@ -324,9 +341,12 @@ fn is_first_passed(slots: &Slots, moment: u64) -> bool
 
 /// Takes the first request out of a queue, where its answer is overdue, with the slots before it.
 fn pop_due(slots: &mut Slots, moment: u64) -> Option<OpenRequest>
-    ensures some { IfSome result (λ o. (filled slots.old.items ≡ o ∷ filled slots.new.items) × (specs.is_due moment o.sent ≡ true)) }
-    ensures none { IfNone result ((filled slots.new.items ≡ filled slots.old.items) × (windows.is_first_passed moment slots.new.items ≡ false)) }
-    ensures dropped { (k : ℕ) × (k ≤ length slots.old.items) × (slots.new.items ≡ drop k slots.old.items) }
+    ensures some { IfSome result (λ o. (filled slots.old.items ≡ o ∷ filled slots.new.items)
+        × (specs.is_due moment o.sent ≡ true)) }
+    ensures none { IfNone result ((filled slots.new.items ≡ filled slots.old.items)
+        × (windows.is_first_passed moment slots.new.items ≡ false)) }
+    ensures dropped { (k : ℕ) × (k ≤ length slots.old.items)
+        × (slots.new.items ≡ drop k slots.old.items) }
     ensures capacity { deque_capacity slots.new ≡ deque_capacity slots.old }
 {
     while is_first_passed(slots, moment) {
@@ -356,10 +376,14 @@ fn promote(from: &mut Slots, to: &mut Slots, moment: u64)
     requires rising { Pairs IsSentBefore (filled from.old.items) }
     requires late { AllByRecursion (λ o. o.sent.last ≤ moment) (filled to.old.items) }
     requires room { length to.old.items + length from.old.items ≤ deque_capacity to.old }
-    ensures list { filled to.new.items ++ filled from.new.items ≡ filled to.old.items ++ map (specs.renewed moment) (filled from.old.items) }
-    ensures numbers { numbers (to.new.items ++ from.new.items) ≡ numbers (to.old.items ++ from.old.items) }
-    ensures sent { (n : ℕ) → n < 3 → IsSent n from.old.items → IsSent (n + 1) to.old.items → IsSent (n + 1) to.new.items × IsSent n from.new.items }
-    ensures rooms { (deque_capacity from.new ≡ deque_capacity from.old) × (deque_capacity to.new ≡ deque_capacity to.old) }
+    ensures list { filled to.new.items ++ filled from.new.items
+        ≡ filled to.old.items ++ map (specs.renewed moment) (filled from.old.items) }
+    ensures numbers { numbers (to.new.items ++ from.new.items)
+        ≡ numbers (to.old.items ++ from.old.items) }
+    ensures sent { (n : ℕ) → n < 3 → IsSent n from.old.items → IsSent (n + 1) to.old.items
+        → IsSent (n + 1) to.new.items × IsSent n from.new.items }
+    ensures rooms { (deque_capacity from.new ≡ deque_capacity from.old)
+        × (deque_capacity to.new ≡ deque_capacity to.old) }
 {
     while is_first_passed(from, moment) {
         if let Some(slot) = from.pop_front() {

@@ -26,7 +26,8 @@ pub(crate) fn is_served(header: &Header) -> bool
 
 /// The one Origin-Host of a request with one Session-Id.
 fn asking_host<'a>(message: &Message<'a>) -> Option<&'a [u8]>
-    ensures { option_copied result ≡ option_map (λ q. q.host) (asking.asked_in (message_view message.now)) }
+    ensures { option_copied result
+        ≡ option_map (λ q. q.host) (asking.asked_in (message_view message.now)) }
 {
     let session = find_only(message.avps, SESSION_ID)?;
     let host = find_only(message.avps, ORIGIN_HOST)?;
@@ -39,7 +40,8 @@ fn asking_host<'a>(message: &Message<'a>) -> Option<&'a [u8]>
 
 /// The key of a request, where it has one Session-Id and one Origin-Host.
 pub(crate) fn key_of(alloc: Global, message: &Message<'_>) -> Result<Option<Key>, NoMemory>
-    ensures { IfOk result (λ k. k ≡ option_map keys.key_of (asking.asked_in (message_view message.now))) }
+    ensures { IfOk result
+        (λ k. k ≡ option_map keys.key_of (asking.asked_in (message_view message.now))) }
 {
     match asking_host(message) {
         None => Ok(None),

@@ -63,7 +63,8 @@ impl Ledger {
         requires sound { IsSound self.old }
         requires late { self.old.moment ≤ moment }
         ensures outputs { IfOk result (λ o. o ≡ output ∷ []) }
-        ensures state { (d : Deed) → IsStill d → OnOk result (Does moment d (state_of self.old) (state_of self.new)) }
+        ensures state { (d : Deed) → IsStill d
+            → OnOk result (Does moment d (state_of self.old) (state_of self.new)) }
         ensures sound { IsSound self.new }
         ensures err { OnErr result (state_of self.new ≡ state_of self.old) }
     {
@@ -81,7 +82,8 @@ impl Ledger {
         packet: &Packet<'_>,
     ) -> Result<Option<Octets>, NoMemory>
         requires { IsSound self.now }
-        ensures { IfOk result (AnswersBy (history.answered self.now.own taken.now packet.now (asking.request_in taken.now.request)) taken.now) }
+        ensures { IfOk result (AnswersBy (history.answered self.now.own taken.now packet.now
+            (asking.request_in taken.now.request)) taken.now) }
     {
         let request = taken.request.as_slice();
         let Ok(message) = parse(request) else {
@@ -118,7 +120,8 @@ impl Ledger {
     ) -> Result<ReverseOutputs, NoMemory>
         requires sound { IsSound self.old }
         requires late { self.old.moment ≤ moment }
-        ensures ok { IfOk result (Leads moment (history.matched self.old.own packet.now (find (history.has_identifier packet.now.id) self.old.open_ones.list))
+        ensures ok { IfOk result (Leads moment (history.matched self.old.own packet.now
+            (find (history.has_identifier packet.now.id) self.old.open_ones.list))
             (state_of self.old) (state_of self.new)) }
         ensures sound { IsSound self.new }
         ensures err { OnErr result (state_of self.new ≡ state_of self.old) }
@@ -149,7 +152,8 @@ impl Ledger {
     ) -> Result<ReverseOutputs, NoMemory>
         requires sound { IsSound self.old }
         requires late { self.old.moment ≤ moment }
-        ensures ok { IfOk result (Leads moment (history.on_reply self.old.own self.old.open_ones.list octets.now) (state_of self.old) (state_of self.new)) }
+        ensures ok { IfOk result (Leads moment (history.on_reply self.old.own
+            self.old.open_ones.list octets.now) (state_of self.old) (state_of self.new)) }
         ensures sound { IsSound self.new }
         ensures err { OnErr result (state_of self.new ≡ state_of self.old) }
     {

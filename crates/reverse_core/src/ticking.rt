@@ -47,7 +47,8 @@ fn push_overdue(
 ) -> Result<(), NoMemory>
     requires host { length own.now.host ≤ 64 }
     requires realm { length own.now.realm ≤ 64 }
-    ensures outputs { OnOk result (overdue.new.outputs.items ≡ overdue.old.outputs.items ++ history.sent_overdue own.now one.now ∷ []) }
+    ensures outputs { OnOk result (overdue.new.outputs.items
+        ≡ overdue.old.outputs.items ++ history.sent_overdue own.now one.now ∷ []) }
     ensures answers { OnOk result (overdue.new.answers.items ≡ overdue.old.answers.items
         ++ (if specs.is_last one.now.sent then specs.silence own.now one.now.taken ∷ [] else [])) }
 {
@@ -75,8 +76,10 @@ fn push_queue(
     requires host { length own.now.host ≤ 64 }
     requires realm { length own.now.realm ≤ 64 }
     requires rising { Pairs IsSentBefore (filled slots.now.items) }
-    ensures outputs { OnOk result (overdue.new.outputs.items ≡ overdue.old.outputs.items ++ flat_map (history.overdue own.now moment) (filled slots.now.items)) }
-    ensures answers { OnOk result (overdue.new.answers.items ≡ overdue.old.answers.items ++ silences own.now moment (filled slots.now.items)) }
+    ensures outputs { OnOk result (overdue.new.outputs.items ≡ overdue.old.outputs.items
+        ++ flat_map (history.overdue own.now moment) (filled slots.now.items)) }
+    ensures answers { OnOk result (overdue.new.answers.items
+        ≡ overdue.old.answers.items ++ silences own.now moment (filled slots.now.items)) }
 {
     for slot in slots.iter() {
         if let Some(one) = slot {
@@ -94,8 +97,10 @@ impl OpenRequests {
     fn overdue(&self, alloc: Global, own: &Reverse, moment: u64) -> Result<Overdue, NoMemory>
         requires host { length own.now.host ≤ 64 }
         requires realm { length own.now.realm ≤ 64 }
-        ensures outputs { IfOk result (λ d. d.outputs.items ≡ flat_map (history.overdue own.now moment) self.now.list) }
-        ensures answers { IfOk result (λ d. d.answers.items ≡ silences own.now moment self.now.list) }
+        ensures outputs { IfOk result
+            (λ d. d.outputs.items ≡ flat_map (history.overdue own.now moment) self.now.list) }
+        ensures answers { IfOk result
+            (λ d. d.answers.items ≡ silences own.now moment self.now.list) }
     {
         let mut overdue = Overdue {
             outputs: Vec::new(alloc),
@@ -116,9 +121,11 @@ impl Ledger {
         requires answers { answers.items ≡ silences self.old.own moment self.old.open_ones.list }
         ensures sound { IsSound self.new }
         ensures own { self.new.own ≡ self.old.own }
-        ensures open_ones { self.new.open_ones.list ≡ filter (λ o. not (specs.is_spent moment o)) self.old.open_ones.list }
+        ensures open_ones { self.new.open_ones.list
+            ≡ filter (λ o. not (specs.is_spent moment o)) self.old.open_ones.list }
         ensures next { self.new.open_ones.next ≡ self.old.open_ones.next }
-        ensures kept { self.new.kept.list ≡ self.old.kept.list ++ map (specs.given_up self.old.own moment) (filter (specs.is_spent moment) self.old.open_ones.list) }
+        ensures kept { self.new.kept.list ≡ self.old.kept.list ++ map (specs.given_up self.old.own
+            moment) (filter (specs.is_spent moment) self.old.open_ones.list) }
         ensures moment { self.new.moment ≡ moment }
     {
         for answer in answers {
@@ -132,7 +139,8 @@ impl Ledger {
     pub(crate) fn tick(&mut self, alloc: Global, moment: u64) -> Result<ReverseOutputs, NoMemory>
         requires sound { IsSound self.old }
         requires late { self.old.moment ≤ moment }
-        ensures ok { IfOk result (Leads moment (history.on_tick self.old.own self.old.open_ones.list moment) (state_of self.old) (state_of self.new)) }
+        ensures ok { IfOk result (Leads moment (history.on_tick self.old.own self.old.open_ones.list
+            moment) (state_of self.old) (state_of self.new)) }
         ensures sound { IsSound self.new }
         ensures err { OnErr result (state_of self.new ≡ state_of self.old) }
     {

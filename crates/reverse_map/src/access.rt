@@ -71,7 +71,8 @@ fn chap_password(members: &[u8]) -> Option<[u8; 17]>
 /// Pushes the CHAP-Password that a CHAP-Auth with these members becomes.
 fn push_chap(request: &mut Reply, members: &[u8]) -> Result<(), Unfit>
     ensures { let value = specs.chap_password (read_avps members.now) in
-        Pushes request.old request.new (is_ok result) (not (is_none value)) (specs.chap_attributes value) }
+        Pushes request.old request.new (is_ok result) (not (is_none value))
+        (specs.chap_attributes value) }
 {
     match chap_password(members) {
         Some(value) => push(request, CHAP_PASSWORD, &value),
@@ -81,7 +82,8 @@ fn push_chap(request: &mut Reply, members: &[u8]) -> Result<(), Unfit>
 
 /// Pushes a State.
 fn push_state(request: &mut Reply, state: &[u8]) -> Result<(), Unfit>
-    ensures { Pushes request.old request.new (is_ok result) (not (nat_lt 253 (length state.now))) (attribute 24 state.now ∷ []) }
+    ensures { Pushes request.old request.new (is_ok result) (not (nat_lt 253 (length state.now)))
+        (attribute 24 state.now ∷ []) }
 {
     if state.len() <= MOST_VALUE {
         push(request, STATE, state)
@@ -99,7 +101,8 @@ pub(crate) fn push_access(
 ) -> Result<(), Unfit>
     requires short { reply_length request.old ≤ 4096 }
     ensures { let a = avp_view avp.now in
-        Pushes request.old request.new (is_ok result) (not (specs.is_bad_access a)) (specs.access_attributes random.now secret.now a) }
+        Pushes request.old request.new (is_ok result) (not (specs.is_bad_access a))
+        (specs.access_attributes random.now secret.now a) }
 {
     match avp.code {
         avp_codes::USER_PASSWORD => push_password(request, random, secret, avp.body),

@@ -63,7 +63,8 @@ pub(crate) fn status_in(list: &[Avp<'_>]) -> Option<u32>
 
 /// Pushes a number of four octets.
 pub(crate) fn push_number(request: &mut Reply, code: u8, value: u32) -> Result<(), Unfit>
-    ensures { Pushes request.old request.new (is_ok result) true (attribute code (text32 value) ∷ []) }
+    ensures { Pushes request.old request.new (is_ok result) true
+        (attribute code (text32 value) ∷ []) }
 {
     push(request, code, &value.to_be_bytes())
 }
@@ -72,7 +73,8 @@ pub(crate) fn push_number(request: &mut Reply, code: u8, value: u32) -> Result<(
 fn push_high(request: &mut Reply, code: u8, half: &[u8]) -> Result<(), Unfit>
     requires short { reply_length request.old ≤ 4096 }
     requires half { length half.now ≡ 4 }
-    ensures { Pushes request.old request.new (is_ok result) true (if number half.now == 0 then [] else attribute code half.now ∷ []) }
+    ensures { Pushes request.old request.new (is_ok result) true
+        (if number half.now == 0 then [] else attribute code half.now ∷ []) }
 {
     if get_u32(half, 0) == 0 {
         Ok(())
@@ -83,7 +85,8 @@ fn push_high(request: &mut Reply, code: u8, half: &[u8]) -> Result<(), Unfit>
 
 /// Pushes a count of eight octets in halves, the low one first.
 fn push_halves(request: &mut Reply, low: u8, high: u8, body: &[u8]) -> Result<(), Unfit>
-    ensures { Pushes request.old request.new (is_ok result) (length body.now == 8) (specs.halves low high body.now) }
+    ensures { Pushes request.old request.new (is_ok result) (length body.now == 8)
+        (specs.halves low high body.now) }
 {
     if body.len() != 8 {
         return Err(Unfit);
@@ -101,7 +104,8 @@ fn saturated(value: u64) -> u32
 
 /// Pushes a count of eight octets as one of four.
 fn push_saturated(request: &mut Reply, code: u8, body: &[u8]) -> Result<(), Unfit>
-    ensures { Pushes request.old request.new (is_ok result) (length body.now == 8) (specs.count_attributes code body.now) }
+    ensures { Pushes request.old request.new (is_ok result) (length body.now == 8)
+        (specs.count_attributes code body.now) }
 {
     if body.len() != 8 {
         return Err(Unfit);
@@ -124,7 +128,8 @@ fn push_cause(request: &mut Reply, cause: u32) -> Result<(), Unfit>
 /// Pushes what a Termination-Cause gives.
 fn push_termination(request: &mut Reply, body: &[u8]) -> Result<(), Unfit>
     requires short { reply_length request.old ≤ 4096 }
-    ensures { Pushes request.old request.new (is_ok result) (length body.now == 4) (specs.terminate_cause (number body.now)) }
+    ensures { Pushes request.old request.new (is_ok result) (length body.now == 4)
+        (specs.terminate_cause (number body.now)) }
 {
     if body.len() == 4 {
         push_cause(request, get_u32(body, 0))
@@ -137,7 +142,8 @@ fn push_termination(request: &mut Reply, body: &[u8]) -> Result<(), Unfit>
 pub(crate) fn push_accounting(request: &mut Reply, avp: &Avp<'_>) -> Result<(), Unfit>
     requires short { reply_length request.old ≤ 4096 }
     ensures { let a = avp_view avp.now in
-        Pushes request.old request.new (is_ok result) (not (specs.is_bad_accounting a)) (specs.accounting_attributes a) }
+        Pushes request.old request.new (is_ok result) (not (specs.is_bad_accounting a))
+        (specs.accounting_attributes a) }
 {
     match avp.code {
         ACCOUNTING_INPUT_OCTETS => {

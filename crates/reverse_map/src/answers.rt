@@ -47,9 +47,11 @@ fn refusal(
     requires asked { IsSome (asked_in (message_view message.now)) }
     requires host { length own.now.host ≤ 64 }
     requires realm { length own.now.realm ≤ 64 }
-    ensures exact { ForAsked (message_view message.now) (λ q. IfOk result (λ o. o ≡ specs.refusal own.now q code)) }
+    ensures exact { ForAsked (message_view message.now)
+        (λ q. IfOk result (λ o. o ≡ specs.refusal own.now q code)) }
     ensures message { ForAsked (message_view message.now) (λ q.
-        IfOk result (λ o. IsMessage o (specs.answer_header q.header code) (avps_text (specs.answer_head own.now q code)))) }
+        IfOk result (λ o. IsMessage o (specs.answer_header q.header code)
+        (avps_text (specs.answer_head own.now q code)))) }
 {
     let writer = begin(alloc, own, message, code)?;
     Ok(writer.finish())
@@ -67,9 +69,11 @@ fn keyless_answer(
     requires asked { IsSome (asked_in (message_view message.now)) }
     requires host { length own.now.host ≤ 64 }
     requires realm { length own.now.realm ≤ 64 }
-    ensures exact { ForAsked (message_view message.now) (λ q. IfOk result (λ o. o ≡ specs.answer_of own.now q reply.now)) }
+    ensures exact { ForAsked (message_view message.now)
+        (λ q. IfOk result (λ o. o ≡ specs.answer_of own.now q reply.now)) }
     ensures message { ForAsked (message_view message.now) (λ q.
-        IfOk result (λ o. IsMessage o (specs.answer_header q.header (specs.reply_result reply.now)) (avps_text (specs.answer_avps own.now q reply.now)))) }
+        IfOk result (λ o. IsMessage o (specs.answer_header q.header (specs.reply_result reply.now))
+        (avps_text (specs.answer_avps own.now q reply.now)))) }
 {
     let code = reply.code();
     let mut writer = begin(alloc, own, message, result_of(code))?;
@@ -88,9 +92,11 @@ fn answer_to(
     requires asked { IsSome (asked_in (message_view message.now)) }
     requires host { length own.now.host ≤ 64 }
     requires realm { length own.now.realm ≤ 64 }
-    ensures exact { ForAsked (message_view message.now) (λ q. IfOk result (λ o. o ≡ specs.answer_of own.now q reply.now)) }
+    ensures exact { ForAsked (message_view message.now)
+        (λ q. IfOk result (λ o. o ≡ specs.answer_of own.now q reply.now)) }
     ensures message { ForAsked (message_view message.now) (λ q.
-        IfOk result (λ o. IsMessage o (specs.answer_header q.header (specs.reply_result reply.now)) (avps_text (specs.answer_avps own.now q reply.now)))) }
+        IfOk result (λ o. IsMessage o (specs.answer_header q.header (specs.reply_result reply.now))
+        (avps_text (specs.answer_avps own.now q reply.now)))) }
 {
     if has_key(reply) {
         refusal(alloc, own, message, UNABLE_TO_COMPLY)
@@ -108,13 +114,16 @@ pub fn answer(
     reply: &Packet<'_>,
 ) -> Result<Octets, NoMemory>
     requires asked { IsSome (request_in request.now) }
-    requires code { ForRequest request.now (λ q. IsTrue (specs.is_reply_code q.header reply.now.code)) }
+    requires code { ForRequest request.now
+        (λ q. IsTrue (specs.is_reply_code q.header reply.now.code)) }
     requires host { length own.now.host ≤ 64 }
     requires realm { length own.now.realm ≤ 64 }
-    ensures exact { ForRequest request.now (λ q. IfOk result (λ o. o ≡ specs.answer_of own.now q reply.now)) }
+    ensures exact { ForRequest request.now
+        (λ q. IfOk result (λ o. o ≡ specs.answer_of own.now q reply.now)) }
     // It is a message, so it can be sent again.
     ensures message { ForRequest request.now (λ q.
-        IfOk result (λ o. IsMessage o (specs.answer_header q.header (specs.reply_result reply.now)) (avps_text (specs.answer_avps own.now q reply.now)))) }
+        IfOk result (λ o. IsMessage o (specs.answer_header q.header (specs.reply_result reply.now))
+        (avps_text (specs.answer_avps own.now q reply.now)))) }
 {
     let Ok(message) = parse(request) else {
         unreachable!();
@@ -127,10 +136,12 @@ pub fn refuse(alloc: Global, own: &Reverse, request: &[u8], code: u32) -> Result
     requires asked { IsSome (request_in request.now) }
     requires host { length own.now.host ≤ 64 }
     requires realm { length own.now.realm ≤ 64 }
-    ensures exact { ForRequest request.now (λ q. IfOk result (λ o. o ≡ specs.refusal own.now q code)) }
+    ensures exact { ForRequest request.now
+        (λ q. IfOk result (λ o. o ≡ specs.refusal own.now q code)) }
     // It is a message, so it can be sent again.
     ensures message { ForRequest request.now (λ q.
-        IfOk result (λ o. IsMessage o (specs.answer_header q.header code) (avps_text (specs.answer_head own.now q code)))) }
+        IfOk result (λ o. IsMessage o (specs.answer_header q.header code)
+        (avps_text (specs.answer_head own.now q code)))) }
 {
     let Ok(message) = parse(request) else {
         unreachable!();

@@ -66,7 +66,8 @@ fn put_names(
 /// Puts the number in the first AVP of this code that has one.
 fn put_first(writer: &mut MessageWriter, avps: &[u8], code: u32) -> Result<(), NoMemory>
     requires { list_length writer.old ≤ 60000 }
-    ensures { OnOk result (Puts writer.old writer.new (specs.number_avps code (first_number code (readable_avps avps.now))) 15) }
+    ensures { OnOk result (Puts writer.old writer.new
+        (specs.number_avps code (first_number code (readable_avps avps.now))) 15) }
 {
     match find_number(avps, code) {
         Some(number) => writer.put_number(code, number),
@@ -77,7 +78,8 @@ fn put_first(writer: &mut MessageWriter, avps: &[u8], code: u32) -> Result<(), N
 /// Puts what is repeated of a request with this header and these AVPs.
 fn put_repeated(writer: &mut MessageWriter, header: &Header, avps: &[u8]) -> Result<(), NoMemory>
     requires { list_length writer.old ≤ 5000 }
-    ensures { OnOk result (Puts writer.old writer.new (specs.repeated header.now (readable_avps avps.now)) 30) }
+    ensures { OnOk result
+        (Puts writer.old writer.new (specs.repeated header.now (readable_avps avps.now)) 30) }
 {
     if header.command == AA {
         writer.put_number(AUTH_APPLICATION_ID, NASREQ)?;
@@ -100,7 +102,8 @@ pub(crate) fn begin(
     requires host { length own.now.host ≤ 64 }
     requires realm { length own.now.realm ≤ 64 }
     ensures list { ForAsked (message_view message.now) (λ q.
-        IfOk result (λ w. w ≡ begun (specs.answer_header q.header code) (specs.answer_head own.now q code))) }
+        IfOk result
+        (λ w. w ≡ begun (specs.answer_header q.header code) (specs.answer_head own.now q code))) }
     ensures front { IfOk result (λ w. KeepsFront w) }
     ensures few { IfOk result (λ w. list_length w ≤ 4302) }
 {

@@ -63,8 +63,10 @@ fn put_taken(
     code: u32,
     value: &[u8],
 ) -> Result<(), NoMemory>
-    requires { length (avps_text (writer.old.avps.list ++ (if taken then plain_avp code value.now ∷ [] else []))) ≤ 65516 }
-    ensures { OnOk result (writer.new ≡ with_avps writer.old (if taken then plain_avp code value.now ∷ [] else [])) }
+    requires { length (avps_text
+        (writer.old.avps.list ++ (if taken then plain_avp code value.now ∷ [] else []))) ≤ 65516 }
+    ensures { OnOk result
+        (writer.new ≡ with_avps writer.old (if taken then plain_avp code value.now ∷ [] else [])) }
 {
     if taken {
         writer.put_with_room(code, None, true, value)
@@ -75,8 +77,10 @@ fn put_taken(
 
 /// Puts the parts of a Vendor-Specific attribute, where they are taken.
 fn put_vendor(writer: &mut MessageWriter, class: Class, value: &[u8]) -> Result<(), NoMemory>
-    requires { length (avps_text (writer.old.avps.list ++ specs.vendor_images class value.now)) ≤ 65516 }
-    ensures { OnOk result (writer.new ≡ with_avps writer.old (specs.vendor_images class value.now)) }
+    requires { length (avps_text (writer.old.avps.list ++ specs.vendor_images class value.now))
+        ≤ 65516 }
+    ensures { OnOk result
+        (writer.new ≡ with_avps writer.old (specs.vendor_images class value.now)) }
 {
     if takes_vendors(class) {
         put_parts(writer, value)
@@ -91,8 +95,10 @@ fn put_row(
     class: Class,
     attribute: &Attribute<'_>,
 ) -> Result<(), NoMemory>
-    requires { length (avps_text (writer.old.avps.list ++ specs.row_avps class (row_of attribute.now.code) attribute.now.value.now)) ≤ 65516 }
-    ensures { OnOk result (writer.new ≡ with_avps writer.old (specs.row_avps class (row_of attribute.now.code) attribute.now.value.now)) }
+    requires { length (avps_text (writer.old.avps.list
+        ++ specs.row_avps class (row_of attribute.now.code) attribute.now.value.now)) ≤ 65516 }
+    ensures { OnOk result (writer.new ≡ with_avps writer.old
+        (specs.row_avps class (row_of attribute.now.code) attribute.now.value.now)) }
 {
     let Some(row) = row_of_type(attribute.code) else {
         return Ok(());
@@ -112,8 +118,10 @@ fn put_image(
     class: Class,
     attribute: &Attribute<'_>,
 ) -> Result<(), NoMemory>
-    requires { length (avps_text (writer.old.avps.list ++ specs.image class (attribute_view attribute.now))) ≤ 65516 }
-    ensures { OnOk result (writer.new ≡ with_avps writer.old (specs.image class (attribute_view attribute.now))) }
+    requires { length (avps_text
+        (writer.old.avps.list ++ specs.image class (attribute_view attribute.now))) ≤ 65516 }
+    ensures { OnOk result
+        (writer.new ≡ with_avps writer.old (specs.image class (attribute_view attribute.now))) }
 {
     let value = attribute.value;
     match attribute.code {
@@ -134,7 +142,8 @@ pub(crate) fn put_images(
     reply: &Packet<'_>,
 ) -> Result<(), NoMemory>
     requires { list_length writer.old ≤ 30000 }
-    ensures { OnOk result (writer.new ≡ with_avps writer.old (specs.images class reply.now.attributes)) }
+    ensures { OnOk result
+        (writer.new ≡ with_avps writer.old (specs.images class reply.now.attributes)) }
 {
     for attribute in reply.attributes() {
         put_image(writer, class, &attribute)?;

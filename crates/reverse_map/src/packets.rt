@@ -33,7 +33,8 @@ fn access_request(
     secret: &[u8],
 ) -> Result<Octets, ReverseFault>
     ensures image { Gives result (keyless_image Access id random secret.now (list_view list.now)) }
-    ensures packet { IfOk result (λ o. IsPacket o (request_packet Access id random secret.now (list_view list.now))) }
+    ensures packet { IfOk result
+        (λ o. IsPacket o (request_packet Access id random secret.now (list_view list.now))) }
 {
     if count_credentials(list) > 1 {
         return Err(ReverseFault::Unable);
@@ -53,8 +54,10 @@ fn accounting_request(
     random: [u8; 16],
     secret: &[u8],
 ) -> Result<Octets, ReverseFault>
-    ensures image { Gives result (keyless_image Accounting id random secret.now (list_view list.now)) }
-    ensures packet { IfOk result (λ o. IsPacket o (request_packet Accounting id random secret.now (list_view list.now))) }
+    ensures image { Gives result
+        (keyless_image Accounting id random secret.now (list_view list.now)) }
+    ensures packet { IfOk result
+        (λ o. IsPacket o (request_packet Accounting id random secret.now (list_view list.now))) }
 {
     let Some(status) = status_in(list) else {
         return Err(ReverseFault::Unable);
@@ -76,8 +79,10 @@ fn request(
     random: [u8; 16],
     secret: &[u8],
 ) -> Result<Octets, ReverseFault>
-    ensures image { Gives result (request_image direction id random secret.now (list_view list.now)) }
-    ensures packet { IfOk result (λ o. IsPacket o (request_packet direction id random secret.now (list_view list.now))) }
+    ensures image { Gives result
+        (request_image direction id random secret.now (list_view list.now)) }
+    ensures packet { IfOk result
+        (λ o. IsPacket o (request_packet direction id random secret.now (list_view list.now))) }
 {
     if has_unsupported(list) {
         return Err(ReverseFault::Unsupported);
@@ -113,7 +118,8 @@ fn packet_of(
     ensures image { ForAsked (message_view message.now) (λ q.
         Gives result (request_image (asking.direction_of q.header) id random secret.now q.avps)) }
     ensures packet { ForAsked (message_view message.now) (λ q.
-        IfOk result (λ o. IsPacket o (request_packet (asking.direction_of q.header) id random secret.now q.avps))) }
+        IfOk result (λ o. IsPacket o
+        (request_packet (asking.direction_of q.header) id random secret.now q.avps))) }
 {
     let Some(list) = read(alloc, message.avps)? else {
         unreachable!();
@@ -135,15 +141,20 @@ pub fn packet(
     requires served { IsTrue (asking.is_served message.now.header) }
     requires asked { IsSome (asking.asked_in (message_view message.now)) }
     ensures image { ForAsked (message_view message.now) (λ q.
-        IfOk result (λ o. request_image (asking.direction_of q.header) id random secret.now q.avps ≡ Ok o)) }
+        IfOk result
+        (λ o. request_image (asking.direction_of q.header) id random secret.now q.avps ≡ Ok o)) }
     // It is a packet of these parts.
     ensures packet { ForAsked (message_view message.now) (λ q.
-        IfOk result (λ o. IsPacket o (request_packet (asking.direction_of q.header) id random secret.now q.avps))) }
+        IfOk result (λ o. IsPacket o
+        (request_packet (asking.direction_of q.header) id random secret.now q.avps))) }
     // Each fault but want of memory comes where the image has it.
-    ensures unsupported { ForAsked (message_view message.now) (λ q. result ≡ Err ReverseFault.Unsupported
-        → request_image (asking.direction_of q.header) id random secret.now q.avps ≡ Err ReverseFault.Unsupported) }
+    ensures unsupported { ForAsked (message_view message.now)
+        (λ q. result ≡ Err ReverseFault.Unsupported
+        → request_image (asking.direction_of q.header) id random secret.now q.avps
+        ≡ Err ReverseFault.Unsupported) }
     ensures unable { ForAsked (message_view message.now) (λ q. result ≡ Err ReverseFault.Unable
-        → request_image (asking.direction_of q.header) id random secret.now q.avps ≡ Err ReverseFault.Unable) }
+        → request_image (asking.direction_of q.header) id random secret.now q.avps
+        ≡ Err ReverseFault.Unable) }
 {
     packet_of(alloc, message, id, random, secret)
 }

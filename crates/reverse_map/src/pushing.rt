@@ -32,7 +32,8 @@ fn is_bad_vendor(avp: &Avp<'_>) -> bool
 fn push_vendor(request: &mut Reply, vendor: u32, avp: &Avp<'_>) -> Result<(), Unfit>
     requires short { reply_length request.old ≤ 4096 }
     ensures { let a = avp_view avp.now in
-        Pushes request.old request.new (is_ok result) (not (specs.is_bad_vendor a)) (specs.vendor_attributes vendor a) }
+        Pushes request.old request.new (is_ok result) (not (specs.is_bad_vendor a))
+        (specs.vendor_attributes vendor a) }
 {
     if fits_vendor(avp) {
         push_fitting(request, vendor, avp)
@@ -107,8 +108,10 @@ pub(crate) fn push_record(
     list: &[Avp<'_>],
 ) -> Result<(), Unfit>
     ensures { let avps = list_view list.now in
-        Pushes request.old request.new (is_ok result) (not (list_any (specs.is_bad Accounting) avps))
-        (attribute 40 (text32 status) ∷ flat_map (specs.image Accounting random.now secret.now) avps) }
+        Pushes request.old request.new (is_ok result)
+        (not (list_any (specs.is_bad Accounting) avps))
+        (attribute 40 (text32 status)
+        ∷ flat_map (specs.image Accounting random.now secret.now) avps) }
 {
     push_number(request, ACCT_STATUS_TYPE, status)?;
     push_images(request, Direction::Accounting, random, secret, list)

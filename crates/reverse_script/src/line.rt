@@ -245,7 +245,8 @@ fn may_stand(begun: bool, kind: Kind) -> bool
 
 /// What a line of these words says.
 fn read_words(alloc: Global, begun: bool, words: &[&[u8]]) -> Result<ScriptLine, ScriptFault>
-    ensures exact { Says result (script.read_words begun (script.kind_of (plain words.now)) (plain words.now)) }
+    ensures exact { Says result
+        (script.read_words begun (script.kind_of (plain words.now)) (plain words.now)) }
     ensures limits { IfOk result IsInLimits }
 {
     match kind_of(words) {

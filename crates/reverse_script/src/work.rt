@@ -43,7 +43,8 @@ fn run_input<K: Sink>(
     sink: &mut K,
 ) -> Result<(), Status>
     ensures runs { (own : OwnParts) (ps : List ReversePlace) → RunsAt core.old counts.old own ps
-        → OnOk result (RunsOn core.new counts.new own ps number (event_at moment input.now) (K.written sink.old) (K.written sink.new)) }
+        → OnOk result (RunsOn core.new counts.new own ps number (event_at moment input.now)
+        (K.written sink.old) (K.written sink.new)) }
     ensures part { (own : OwnParts) (ps : List ReversePlace) → RunsAt core.old counts.old own ps
         → AppendsPrefix (K.written sink.old) (K.written sink.new)
         (flat_map (output_line number) (place own ps (event_at moment input.now)).outputs) }
@@ -112,11 +113,14 @@ impl ReverseWork {
         ensures follows { (stage : Stage) → IsStage self.old.core self.old.counts stage
             → OnOk result (IsStage self.new.core self.new.counts (stage_on stage (said_of said))) }
         ensures written { (stage : Stage) → IsStage self.old.core self.old.counts stage
-            → OnOk result (Appends (K.written sink.old) (K.written sink.new) (text_on number stage (said_of said))) }
+            → OnOk result (Appends (K.written sink.old) (K.written sink.new)
+            (text_on number stage (said_of said))) }
         ensures part { (stage : Stage) → IsStage self.old.core self.old.counts stage
-            → AppendsPrefix (K.written sink.old) (K.written sink.new) (text_on number stage (said_of said)) }
+            → AppendsPrefix (K.written sink.old) (K.written sink.new)
+            (text_on number stage (said_of said)) }
         ensures lines { self.new.lines ≡ self.old.lines }
-        ensures fault { result ≡ Err Status.WriteFault → Rose (K.faults sink.old) (K.faults sink.new) }
+        ensures fault { result ≡ Err Status.WriteFault
+            → Rose (K.faults sink.old) (K.faults sink.new) }
         ensures failure { IfErr result IsFailure }
         ensures faults_stay { K.faults sink.old ≤ K.faults sink.new }
     {

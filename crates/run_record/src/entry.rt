@@ -77,10 +77,12 @@ pub trait EntryWriter {
     /// Writes these entries behind those before. After a write that failed it isn't called again.
     fn write(&mut self, entries: &[Entry]) -> Put
         ensures counts { Counts (PutFailed result) (faults self.old) (faults self.new) }
-        ensures wrote { (base : Self.Base) (before : List Entry) → stands self.old base before → stands self.new base (before ++ entries.now) };
+        ensures wrote { (base : Self.Base) (before : List Entry) → stands self.old base before
+            → stands self.new base (before ++ entries.now) };
 
     /// Pauses a short while, so that entries gather.
     fn rest(&mut self)
         ensures faults { faults self.new ≡ faults self.old }
-        ensures rested { (base : Self.Base) (before : List Entry) → stands self.old base before → stands self.new base before };
+        ensures rested { (base : Self.Base) (before : List Entry) → stands self.old base before
+            → stands self.new base before };
 }

@@ -115,7 +115,8 @@ impl Queue {
 
     /// Puts an entry behind the others, or closes.
     fn put(&mut self, entry: Entry)
-        ensures kept { self.new.closed ≡ None → (self.old.closed ≡ None) × (self.new.entries ≡ self.old.entries ++ entry ∷ []) }
+        ensures kept { self.new.closed ≡ None
+            → (self.old.closed ≡ None) × (self.new.entries ≡ self.old.entries ++ entry ∷ []) }
         ensures begins { self.new.closed ≢ None → self.new.entries ≡ self.old.entries }
     {
         let size = size_of(&entry);

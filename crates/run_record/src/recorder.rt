@@ -38,7 +38,8 @@ fn record_once<R: Wait, E: EntryWriter>(
 ) -> Option<Entries>
     requires { table_of pass.old ≡ turnstile.now }
     ensures table { table_of pass.new ≡ table_of pass.old }
-    ensures records { Records E.stands E.faults (known pass.old) (known pass.new) writer.old writer.new }
+    ensures records { Records E.stands E.faults (known pass.old) (known pass.new) writer.old
+        writer.new }
 {
     let Given { entries, over } = ask(rt, turnstile, pass, Asked::Take { room });
     match first_moment(entries.as_slice()) {

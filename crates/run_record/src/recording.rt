@@ -70,8 +70,10 @@ where
     ensures one_queue { IfOk result (λ ends. IsRecorderOf ends.0.queue ends.1) }
     ensures writer { IfOk result (λ ends. writer_of ends.1 ≡ writer) }
     ensures same { IfErr result (λ back. back.writer ≡ writer) }
-    ensures refused { IfErr result (λ back. back.refused ≡ true → Rose (W.faults crew.old) (W.faults crew.new)) }
-    ensures unrefused { IfErr result (λ back. back.refused ≡ false → W.faults crew.new ≡ W.faults crew.old) }
+    ensures refused { IfErr result
+        (λ back. back.refused ≡ true → Rose (W.faults crew.old) (W.faults crew.new)) }
+    ensures unrefused { IfErr result
+        (λ back. back.refused ≡ false → W.faults crew.new ≡ W.faults crew.old) }
     ensures started { IfOk result (λ ends. W.faults crew.new ≡ W.faults crew.old) }
 {
     let (sender, recorder) = match make_ends(alloc, writer) {
@@ -120,7 +122,8 @@ where
     E: EntryWriter + Send + Drop + 'static,
     W: Crew<Recorder<E>>,
     requires { IsRecorderOf sender.queue helper }
-    ensures wrote { (base : E.Base) → E.stands (writer_of helper) base [] → IsWritten E.stands base result.writer result.closed sender.told }
+    ensures wrote { (base : E.Base) → E.stands (writer_of helper) base []
+        → IsWritten E.stands base result.writer result.closed sender.told }
     ensures sound { result.closed ≡ None → E.faults result.writer ≡ E.faults (writer_of helper) }
     ensures faults { W.faults crew.new ≡ W.faults crew.old }
 {

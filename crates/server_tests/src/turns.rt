@@ -80,7 +80,8 @@ fn both_visit<R: Threads + Wait + Sync>(
 ) -> (Pass<Counter>, Pass<Counter>)
     requires { (table_of one ≡ turnstile.now) × (table_of two ≡ turnstile.now) }
     ensures tables { (table_of result.0 ≡ table_of one) × (table_of result.1 ≡ table_of two) }
-    ensures numbers { ((known result.0).numbers ≡ (known one).numbers) × ((known result.1).numbers ≡ (known two).numbers) }
+    ensures numbers { ((known result.0).numbers ≡ (known one).numbers)
+        × ((known result.1).numbers ≡ (known two).numbers) }
 {
     join(
         rt,

@@ -35,7 +35,8 @@ fn tick<R: Wait, T: Desk<Ask = Input, Answer = Heard, Refusal = NoMemory, Base =
 ) -> bool
     requires { table_of pass.old ≡ turnstile.now }
     ensures table { table_of pass.new ≡ table_of pass.old }
-    ensures ticked { (turn : RunTurn) × Went (turn ∷ []) (known pass.old) (known pass.new) × TookTick result turn }
+    ensures ticked { (turn : RunTurn) × Went (turn ∷ []) (known pass.old) (known pass.new)
+        × TookTick result turn }
 {
     match enter(rt, turnstile, pass, Input::Tick) {
         Some(heard) => heard.finished,
@@ -52,7 +53,8 @@ pub fn dial<
     requires table { table_of pass.old ≡ turnstile.now }
     requires row { (L.told dialer.old).row ≡ 0 }
     ensures table { table_of pass.new ≡ table_of pass.old }
-    ensures dialled { (mine : List RunTurn) × Went mine (known pass.old) (known pass.new) × Dialled L.In.told L.Out.told result mine (L.told dialer.old) (L.told dialer.new) }
+    ensures dialled { (mine : List RunTurn) × Went mine (known pass.old) (known pass.new)
+        × Dialled L.In.told L.Out.told result mine (L.told dialer.old) (L.told dialer.new) }
     ensures made { MadeBy result (L.made dialer.old) (L.made dialer.new) }
     ensures numbered { MadeAs L.In.told result (L.made dialer.old) }
 {

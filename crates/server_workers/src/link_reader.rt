@@ -70,8 +70,10 @@ fn is_last(heard: &Heard) -> bool
 
 /// Sends an output by the socket of its port, where it is a reply. A send that fails loses it.
 fn send_reply<D: Datagrams>(output: &Output, auth: &mut D, acct: &mut D)
-    ensures auth { Adds (D.told auth.old).handed (D.told auth.new).handed (reply_by Auth output.now) }
-    ensures acct { Adds (D.told acct.old).handed (D.told acct.new).handed (reply_by Acct output.now) }
+    ensures auth { Adds (D.told auth.old).handed (D.told auth.new).handed
+        (reply_by Auth output.now) }
+    ensures acct { Adds (D.told acct.old).handed (D.told acct.new).handed
+        (reply_by Acct output.now) }
     ensures ports { StayAt (D.told auth.old) (D.told acct.old) (D.told auth.new) (D.told acct.new) }
 {
     if let Output::Reply {
@@ -89,8 +91,10 @@ fn send_reply<D: Datagrams>(output: &Output, auth: &mut D, acct: &mut D)
 }
 
 fn send_replies<D: Datagrams>(outputs: &[Output], auth: &mut D, acct: &mut D)
-    ensures auth { Adds (D.told auth.old).handed (D.told auth.new).handed (flat_map (reply_by Auth) outputs.now) }
-    ensures acct { Adds (D.told acct.old).handed (D.told acct.new).handed (flat_map (reply_by Acct) outputs.now) }
+    ensures auth { Adds (D.told auth.old).handed (D.told auth.new).handed
+        (flat_map (reply_by Auth) outputs.now) }
+    ensures acct { Adds (D.told acct.old).handed (D.told acct.new).handed
+        (flat_map (reply_by Acct) outputs.now) }
     ensures ports { StayAt (D.told auth.old) (D.told acct.old) (D.told auth.new) (D.told acct.new) }
 {
     for output in outputs {
@@ -133,7 +137,8 @@ impl<
         ensures table { table_of self.new.pass ≡ table_of self.old.pass }
         ensures reads { (start : Sight T) (link : Inlet) (piece : List ℕ) (framer : FramerParts)
             → SoFar D.told piece start self.old link framer
-            → MatchBool result (Stops D.told start self.new link framer) (SoFar D.told piece start self.new link framer) }
+            → MatchBool result (Stops D.told start self.new link framer)
+            (SoFar D.told piece start self.new link framer) }
     {
         let over = self.visit(rt, turnstile, Input::Tick);
         self.again = self.again.saturating_add(1);
@@ -158,7 +163,8 @@ fn feed_all<
     ensures shown { framer.new.shown ≡ framer.old.shown }
     ensures reads { (start : Sight T) (link : Inlet)
         → SoFar D.told piece.now start visitor.old link framer.old
-        → MatchBool result (Stops D.told start visitor.new link framer.new) (SoFar D.told [] start visitor.new link framer.new) }
+        → MatchBool result (Stops D.told start visitor.new link framer.new)
+        (SoFar D.told [] start visitor.new link framer.new) }
 {
     for _ in rt.forever() {
         match framer.feed(piece) {
@@ -186,10 +192,12 @@ fn next_of_stream<
 ) -> Option<Next>
     requires { table_of visitor.old.pass ≡ turnstile.now }
     ensures table { table_of visitor.new.pass ≡ table_of visitor.old.pass }
-    ensures framer { MatchOption result (framer.new ≡ framer.old) (λ next. framer.new ≡ without next framer.old) }
+    ensures framer { MatchOption result (framer.new ≡ framer.old)
+        (λ next. framer.new ≡ without next framer.old) }
     ensures reads { (start : Sight T) (link : Inlet)
         → SoFar D.told [] start visitor.old link framer.old
-        → MatchOption result (Stops D.told start visitor.new link framer.new) (λ next. Gives D.told next start visitor.new link framer.old) }
+        → MatchOption result (Stops D.told start visitor.new link framer.new)
+        (λ next. Gives D.told next start visitor.new link framer.old) }
 {
     for _ in rt.forever() {
         match framer.next_message() {
@@ -217,7 +225,8 @@ fn take_messages<
     ensures broken { frames.new.broken ≡ is_some frames.new.framer.shown }
     ensures reads { (start : Sight T) (link : Inlet)
         → SoFar D.told [] start visitor.old link frames.old.framer
-        → MatchBool result (Stops D.told start visitor.new link frames.new.framer) (HeededAll D.told start visitor.new link frames.new.framer) }
+        → MatchBool result (Stops D.told start visitor.new link frames.new.framer)
+        (HeededAll D.told start visitor.new link frames.new.framer) }
 {
     for _ in rt.forever() {
         match next_of_stream(rt, turnstile, visitor, &mut frames.framer) {
@@ -258,7 +267,8 @@ fn take_piece<
     ensures broken { frames.new.broken ≡ is_some frames.new.framer.shown }
     ensures reads { (start : Sight T) (link : Inlet)
         → SoFar D.told piece.now start visitor.old link frames.old.framer
-        → MatchBool result (Stops D.told start visitor.new link frames.new.framer) (HeededAll D.told start visitor.new link frames.new.framer) }
+        → MatchBool result (Stops D.told start visitor.new link frames.new.framer)
+        (HeededAll D.told start visitor.new link frames.new.framer) }
 {
     if feed_all(rt, turnstile, visitor, &mut frames.framer, piece) {
         return true;
@@ -360,8 +370,10 @@ pub fn read_link<
     requires fresh { ((I.told link).ends ≡ 0) × ((I.told link).faults ≡ 0) }
     ensures table { table_of result.pass ≡ table_of pass }
     ensures failed { result.failed ≡ nat_lt 0 (I.told result.link).faults }
-    ensures reads { ReadsLink (sight (known pass) (I.told link) (D.told auth_twin) (D.told acct_twin))
-        (sight (known result.pass) (I.told result.link) (D.told result.auth_twin) (D.told result.acct_twin)) result.lost result.again }
+    ensures reads { ReadsLink
+        (sight (known pass) (I.told link) (D.told auth_twin) (D.told acct_twin))
+        (sight (known result.pass) (I.told result.link) (D.told result.auth_twin)
+        (D.told result.acct_twin)) result.lost result.again }
 {
     let mut visitor = Visitor {
         pass,

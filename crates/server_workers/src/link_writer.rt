@@ -121,7 +121,8 @@ fn drain<
 ) -> Option<Heard>
     requires { table_of pass.old ≡ turnstile.now }
     ensures table { table_of pass.new ≡ table_of pass.old }
-    ensures wrote { WroteRound result sound.old sound.new (known pass.old) (known pass.new) (O.told link.old) (O.told link.new) }
+    ensures wrote { WroteRound result sound.old sound.new (known pass.old) (known pass.new)
+        (O.told link.old) (O.told link.new) }
 {
     let heard = enter(rt, turnstile, pass, Input::Drain)?;
     if *sound && !send_all(alloc, link, heard.sends.as_slice()) {
@@ -146,7 +147,8 @@ fn leave<
 ) -> WriterEnd
     requires { table_of pass.old ≡ turnstile.now }
     ensures table { table_of pass.new ≡ table_of pass.old }
-    ensures took { TookLeave result sound.old sound.new (known pass.old) (known pass.new) (O.told link.old) (O.told link.new) }
+    ensures took { TookLeave result sound.old sound.new (known pass.old) (known pass.new)
+        (O.told link.old) (O.told link.new) }
 {
     let Some(_) = enter(rt, turnstile, pass, Input::Leave) else {
         return WriterEnd::NoMemory;
@@ -165,7 +167,8 @@ pub fn write_link<
 >(rt: &R, alloc: Global, turnstile: &Turnstile<T>, pass: &mut Pass<T>, link: &mut O) -> WriterEnd
     requires { table_of pass.old ≡ turnstile.now }
     ensures table { table_of pass.new ≡ table_of pass.old }
-    ensures wrote { WroteLink result (known pass.old) (known pass.new) (O.told link.old) (O.told link.new) }
+    ensures wrote { WroteLink result (known pass.old) (known pass.new) (O.told link.old)
+        (O.told link.new) }
 {
     let mut sound = true;
     for _ in rt.forever() {

@@ -188,12 +188,15 @@ where
     O: LinkOut,
     W: Crew<Worker<T, D, I>>,
     requires table { table_of pass.old ≡ arc_value turnstile.now }
-    requires started { StartedAs I.told O.told D.told (arc_value turnstile.now) (known pass.old) live.helper live.link_out past.old }
+    requires started { StartedAs I.told O.told D.told (arc_value turnstile.now) (known pass.old)
+        live.helper live.link_out past.old }
     ensures table { table_of pass.new ≡ table_of pass.old }
-    ensures over { Over I.told O.told D.told result.0 (known pass.old) (known pass.new) result.1 past.new }
+    ensures over { Over I.told O.told D.told result.0 (known pass.old) (known pass.new) result.1
+        past.new }
     ensures kept { length past.new.pairs.items ≡ length past.old.pairs.items + 1 }
     ensures ports { ports_of D.told result.1 ≡ ports_in D.told live.helper }
-    ensures numbers { numbers_of I.told past.new.pairs.items ≡ numbers_of I.told past.old.pairs.items ++ number_in I.told live.helper ∷ [] }
+    ensures numbers { numbers_of I.told past.new.pairs.items
+        ≡ numbers_of I.told past.old.pairs.items ++ number_in I.told live.helper ∷ [] }
     ensures faults { W.faults crew.new ≡ W.faults crew.old }
     ensures started { W.started crew.new ≡ W.started crew.old }
 {
@@ -224,7 +227,8 @@ where
     ensures table { table_of pass.new ≡ table_of pass.old }
     ensures joined { Joined (known pass.old) (known back.pass) (known pass.new) }
     ensures twins { result ≡ back.twins }
-    ensures pairs { past.new.pairs.items ≡ past.old.pairs.items ++ record { link_in = back.link_in; link_out = link_out } ∷ [] }
+    ensures pairs { past.new.pairs.items
+        ≡ past.old.pairs.items ++ record { link_in = back.link_in; link_out = link_out } ∷ [] }
     ensures room { vec_capacity past.new.pairs ≡ vec_capacity past.old.pairs }
     ensures lost { past.new.lost ≡ min (past.old.lost + back.lost) (2 ^ 64 - 1) }
     ensures again { past.new.again ≡ min (past.old.again + back.again) (2 ^ 64 - 1) }
@@ -295,7 +299,8 @@ where
     requires { table_of pass.old ≡ arc_value turnstile.now }
     ensures table { table_of pass.new ≡ table_of pass.old }
     ensures next { result ≡ Next.Stop end twins }
-    ensures went { (tries : List RunTurn) × ((left : Heard) × Went tries (known pass.old) (known pass.new) × AsksLeave left tries) }
+    ensures went { (tries : List RunTurn)
+        × ((left : Heard) × Went tries (known pass.old) (known pass.new) × AsksLeave left tries) }
 {
     let _ = take_leave(rt, turnstile, pass);
     Next::Stop { end, twins }
@@ -326,12 +331,15 @@ where
     requires fresh { IsFreshInlet (I.told pair.link_in) × IsFreshOutlet (O.told pair.link_out) }
     requires opened { LinkOpened I.told O.told D.told (known pass.old) twins past.old }
     ensures table { table_of pass.new ≡ table_of pass.old }
-    ensures next { (dials : Dials) → dials.row ≡ 0 → ComesNext I.told O.told D.told result (arc_value turnstile.now) dials dials (W.faults crew.old) (W.faults crew.new) (known pass.old) (known pass.new) past.new }
+    ensures next { (dials : Dials) → dials.row ≡ 0
+        → ComesNext I.told O.told D.told result (arc_value turnstile.now) dials dials
+        (W.faults crew.old) (W.faults crew.new) (known pass.old) (known pass.new) past.new }
     ensures stops { StopsAs result 0 (W.faults crew.old) (W.faults crew.new) }
     ensures kept { KeepsPair result (length past.old.pairs.items) (length past.new.pairs.items) }
     ensures ports { ports_next D.told result ≡ ports_of D.told twins }
     ensures order { (made : ℕ) → TellsOnly (I.told pair.link_in).number made
-        → NextInOrder I.told result made (numbers_of I.told past.old.pairs.items) (numbers_of I.told past.new.pairs.items) }
+        → NextInOrder I.told result made (numbers_of I.told past.old.pairs.items)
+        (numbers_of I.told past.new.pairs.items) }
     ensures started { W.started crew.old ≤ W.started crew.new }
 {
     let Ok(share) = Arc::try_clone(turnstile) else {
@@ -384,12 +392,15 @@ where
     requires few { length past.old.pairs.items < 256 }
     requires rests { Rests I.told O.told D.told (known pass.old) twins past.old }
     ensures table { table_of pass.new ≡ table_of pass.old }
-    ensures next { (dials : Dials) → dials.row ≡ 0 → ComesNext I.told O.told D.told result (arc_value turnstile.now) dials dials (W.faults crew.old) (W.faults crew.new) (known pass.old) (known pass.new) past.new }
+    ensures next { (dials : Dials) → dials.row ≡ 0
+        → ComesNext I.told O.told D.told result (arc_value turnstile.now) dials dials
+        (W.faults crew.old) (W.faults crew.new) (known pass.old) (known pass.new) past.new }
     ensures stops { StopsAs result 0 (W.faults crew.old) (W.faults crew.new) }
     ensures kept { KeepsPair result (length past.old.pairs.items) (length past.new.pairs.items) }
     ensures ports { ports_next D.told result ≡ ports_of D.told twins }
     ensures order { (made : ℕ) → TellsOnly (I.told pair.link_in).number made
-        → NextInOrder I.told result made (numbers_of I.told past.old.pairs.items) (numbers_of I.told past.new.pairs.items) }
+        → NextInOrder I.told result made (numbers_of I.told past.old.pairs.items)
+        (numbers_of I.told past.new.pairs.items) }
     ensures started { W.started crew.old ≤ W.started crew.new }
 {
     let Some(_) = enter(rt, turnstile, pass, Input::Up) else {
@@ -424,11 +435,15 @@ where
     requires row { (L.told dialer.old).row ≡ 0 }
     requires rests { Rests L.In.told L.Out.told D.told (known pass.old) twins past.old }
     ensures table { table_of pass.new ≡ table_of pass.old }
-    ensures next { ComesNext L.In.told L.Out.told D.told result (arc_value turnstile.now) (L.told dialer.old) (L.told dialer.new) (W.faults crew.old) (W.faults crew.new) (known pass.old) (known pass.new) past.new }
+    ensures next { ComesNext L.In.told L.Out.told D.told result (arc_value turnstile.now)
+        (L.told dialer.old) (L.told dialer.new) (W.faults crew.old) (W.faults crew.new)
+        (known pass.old) (known pass.new) past.new }
     ensures stops { StopsAs result (L.told dialer.new).row (W.faults crew.old) (W.faults crew.new) }
-    ensures kept { KeepsAll result (length past.old.pairs.items) (length past.new.pairs.items) (L.made dialer.old) (L.made dialer.new) }
+    ensures kept { KeepsAll result (length past.old.pairs.items) (length past.new.pairs.items)
+        (L.made dialer.old) (L.made dialer.new) }
     ensures ports { ports_next D.told result ≡ ports_of D.told twins }
-    ensures order { NextInOrder L.In.told result (L.made dialer.old) (numbers_of L.In.told past.old.pairs.items) (numbers_of L.In.told past.new.pairs.items) }
+    ensures order { NextInOrder L.In.told result (L.made dialer.old)
+        (numbers_of L.In.told past.old.pairs.items) (numbers_of L.In.told past.new.pairs.items) }
     ensures started { W.started crew.old ≤ W.started crew.new }
 {
     if past.pairs.len() >= MOST_LINKS {
@@ -481,13 +496,18 @@ where
     W: Crew<Worker<T, D, L::In>>,
     requires table { table_of pass.old ≡ arc_value turnstile.now }
     requires row { (L.told dialer.old).row ≡ 0 }
-    requires started { StartedAs L.In.told L.Out.told D.told (arc_value turnstile.now) (known pass.old) live.helper live.link_out past.old }
+    requires started { StartedAs L.In.told L.Out.told D.told (arc_value turnstile.now)
+        (known pass.old) live.helper live.link_out past.old }
     ensures table { table_of pass.new ≡ table_of pass.old }
-    ensures next { ComesNext L.In.told L.Out.told D.told result (arc_value turnstile.now) (L.told dialer.old) (L.told dialer.new) (W.faults crew.old) (W.faults crew.new) (known pass.old) (known pass.new) past.new }
+    ensures next { ComesNext L.In.told L.Out.told D.told result (arc_value turnstile.now)
+        (L.told dialer.old) (L.told dialer.new) (W.faults crew.old) (W.faults crew.new)
+        (known pass.old) (known pass.new) past.new }
     ensures stops { StopsAs result (L.told dialer.new).row (W.faults crew.old) (W.faults crew.new) }
-    ensures kept { KeepsAll result (length past.old.pairs.items + 1) (length past.new.pairs.items) (L.made dialer.old) (L.made dialer.new) }
+    ensures kept { KeepsAll result (length past.old.pairs.items + 1) (length past.new.pairs.items)
+        (L.made dialer.old) (L.made dialer.new) }
     ensures ports { ports_next D.told result ≡ ports_in D.told live.helper }
-    ensures order { NextInOrder L.In.told result (L.made dialer.old) (numbers_of L.In.told past.old.pairs.items ++ number_in L.In.told live.helper ∷ [])
+    ensures order { NextInOrder L.In.told result (L.made dialer.old)
+        (numbers_of L.In.told past.old.pairs.items ++ number_in L.In.told live.helper ∷ [])
         (numbers_of L.In.told past.new.pairs.items) }
     ensures started { W.started crew.old ≤ W.started crew.new }
 {
@@ -521,14 +541,21 @@ where
     W: Crew<Worker<T, D, L::In>>,
     requires table { table_of pass.old ≡ arc_value turnstile.now }
     requires row { (L.told dialer.old).row ≡ 0 }
-    requires started { StartedAs L.In.told L.Out.told D.told (arc_value turnstile.now) (known pass.old) first.helper first.link_out past.old }
+    requires started { StartedAs L.In.told L.Out.told D.told (arc_value turnstile.now)
+        (known pass.old) first.helper first.link_out past.old }
     ensures table { table_of pass.new ≡ table_of pass.old }
-    ensures ends { NoNextLink L.In.told L.Out.told D.told result.0 (L.told dialer.old) (L.told dialer.new) (Rose (W.faults crew.old) (W.faults crew.new)) (known pass.old) (known pass.new) result.1 past.new }
-    ensures stops { StopsFor result.0 (L.told dialer.new).row (W.faults crew.old) (W.faults crew.new) }
-    ensures kept { Keeps (length past.old.pairs.items + 1) (length past.new.pairs.items) (L.made dialer.old) (L.made dialer.new) }
+    ensures ends { NoNextLink L.In.told L.Out.told D.told result.0 (L.told dialer.old)
+        (L.told dialer.new) (Rose (W.faults crew.old) (W.faults crew.new)) (known pass.old)
+        (known pass.new) result.1 past.new }
+    ensures stops { StopsFor result.0 (L.told dialer.new).row (W.faults crew.old)
+        (W.faults crew.new) }
+    ensures kept { Keeps (length past.old.pairs.items + 1) (length past.new.pairs.items)
+        (L.made dialer.old) (L.made dialer.new) }
     ensures ports { ports_of D.told result.1 ≡ ports_in D.told first.helper }
-    ensures order { (made : ℕ) → InOrder made (numbers_of L.In.told past.old.pairs.items ++ number_in L.In.told first.helper ∷ [])
-        → L.made dialer.old ≡ counted made (length past.old.pairs.items + 1) → InOrder made (numbers_of L.In.told past.new.pairs.items) }
+    ensures order { (made : ℕ) → InOrder made
+        (numbers_of L.In.told past.old.pairs.items ++ number_in L.In.told first.helper ∷ [])
+        → L.made dialer.old ≡ counted made (length past.old.pairs.items + 1)
+        → InOrder made (numbers_of L.In.told past.new.pairs.items) }
     ensures started { W.started crew.old ≤ W.started crew.new }
 {
     let mut live = first;

@@ -79,7 +79,8 @@ fn answer<
     requires { table_of pass.old ≡ turnstile.now }
     ensures table { table_of pass.new ≡ table_of pass.old }
     ensures went { Went (turn_of input result ∷ []) (known pass.old) (known pass.new) }
-    ensures hands { Hands (D.told socket.old) (D.told socket.new) (replies (turn_of input result ∷ [])) }
+    ensures hands { Hands (D.told socket.old) (D.told socket.new)
+        (replies (turn_of input result ∷ [])) }
 {
     let heard = enter(rt, turnstile, pass, input)?;
     send_replies(socket, heard.outputs.as_slice());
@@ -125,8 +126,10 @@ fn take_in<
     requires table { table_of pass.old ≡ turnstile.now }
     requires range { counts.old.lost < 2 ^ 64 }
     ensures table { table_of pass.new ≡ table_of pass.old }
-    ensures reads { (via : Via) (d : Datagram) (before : Socket) → IfSome input (λ i. i ≡ input_of via d) → Gave before (D.told socket.old) d
-        → ReadsOnce via (known pass.old) (known pass.new) before (D.told socket.new) counts.old counts.new result }
+    ensures reads { (via : Via) (d : Datagram) (before : Socket)
+        → IfSome input (λ i. i ≡ input_of via d) → Gave before (D.told socket.old) d
+        → ReadsOnce via (known pass.old) (known pass.new) before (D.told socket.new) counts.old
+        counts.new result }
 {
     counts.row = 0;
     if let Some(input) = input {
@@ -154,7 +157,8 @@ fn pass_time<
     requires range { counts.old.lost < 2 ^ 64 }
     ensures table { table_of pass.new ≡ table_of pass.old }
     ensures reads { (via : Via) (before : Socket) → FoundNone before (D.told socket.old)
-        → ReadsOnce via (known pass.old) (known pass.new) before (D.told socket.new) counts.old counts.new result }
+        → ReadsOnce via (known pass.old) (known pass.new) before (D.told socket.new) counts.old
+        counts.new result }
 {
     counts.row = 0;
     match answer(rt, turnstile, pass, socket, Input::Tick) {
@@ -179,8 +183,10 @@ fn count_failure<
     requires few { counts.old.row < 16 }
     requires range { counts.old.lost < 2 ^ 64 }
     ensures table { table_of pass.new ≡ table_of pass.old }
-    ensures reads { (via : Via) (before : Socket) → FailedToReceive before (D.told socket.old) → counts.old.row ≡ before.row
-        → ReadsOnce via (known pass.old) (known pass.new) before (D.told socket.new) counts.old counts.new result }
+    ensures reads { (via : Via) (before : Socket) → FailedToReceive before (D.told socket.old)
+        → counts.old.row ≡ before.row
+        → ReadsOnce via (known pass.old) (known pass.new) before (D.told socket.new) counts.old
+        counts.new result }
 {
     counts.row += 1;
     if counts.row < MOST_FAILURES {
@@ -211,7 +217,8 @@ fn read_once<
     requires few { counts.old.row < 16 }
     requires range { counts.old.lost < 2 ^ 64 }
     ensures table { table_of pass.new ≡ table_of pass.old }
-    ensures reads { ReadsOnce via (known pass.old) (known pass.new) (D.told socket.old) (D.told socket.new) counts.old counts.new result }
+    ensures reads { ReadsOnce via (known pass.old) (known pass.new) (D.told socket.old)
+        (D.told socket.new) counts.old counts.new result }
 {
     match socket.receive(buf) {
         Took::From {
@@ -244,7 +251,8 @@ pub fn read_socket<
     requires table { table_of pass.old ≡ turnstile.now }
     requires row { (D.told socket.old).row ≡ 0 }
     ensures table { table_of pass.new ≡ table_of pass.old }
-    ensures reads { ReadsSocket via (known pass.old) (known pass.new) (D.told socket.old) (D.told socket.new) result.lost result.failed }
+    ensures reads { ReadsSocket via (known pass.old) (known pass.new) (D.told socket.old)
+        (D.told socket.new) result.lost result.failed }
 {
     let mut buf = [0; BUFFER];
     let mut counts = ReadCounts { lost: 0, row: 0 };

@@ -36,7 +36,8 @@ pub fn take_leave<
 >(rt: &R, turnstile: &Turnstile<T>, pass: &mut Pass<T>) -> Heard
     requires { table_of pass.old ≡ turnstile.now }
     ensures table { table_of pass.new ≡ table_of pass.old }
-    ensures left { (tries : List RunTurn) × Went tries (known pass.old) (known pass.new) × AsksLeave result tries }
+    ensures left { (tries : List RunTurn) × Went tries (known pass.old) (known pass.new)
+        × AsksLeave result tries }
 {
     for _ in rt.forever() {
         if let Some(left) = enter(rt, turnstile, pass, Input::Leave) {

@@ -68,7 +68,8 @@ pub enum Ended<T, D, I> {
 
 /// What came of the reader of a link.
 fn link_ended<T, D, I>(end: LinkEnd<T, D, I>) -> Ended<T, D, I>
-    ensures { result ≡ Ended.Link end.link end.auth_twin end.acct_twin end.pass end.lost end.again (then_some end.failed LinkFault) }
+    ensures { result ≡ Ended.Link end.link end.auth_twin end.acct_twin end.pass end.lost end.again
+        (then_some end.failed LinkFault) }
 {
     let LinkEnd {
         pass,

@@ -50,7 +50,8 @@ pub(crate) fn write_answer(
 ) -> Result<Octets, NoMemory>
     requires host { length host.now ≤ 255 }
     requires realm { length realm.now ≤ 255 }
-    ensures { IfOk result (λ o. o ≡ specs.answer_text host.now realm.now asked.now session.now code) }
+    ensures { IfOk result
+        (λ o. o ≡ specs.answer_text host.now realm.now asked.now session.now code) }
 {
     let mut writer = MessageWriter::new(alloc, answer_header(asked))?;
     put_session(&mut writer, session)?;

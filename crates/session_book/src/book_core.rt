@@ -77,7 +77,8 @@ impl Ledger {
         requires limits { InLimits self.old.core.config }
         requires stands { (H : List places.Event) × core.StandsFor self.old.core H }
         ensures ok { (H : List places.Event) → core.StandsFor self.old.core H
-            → IfOk result (λ o. CoreSteps H moment input.now (history.caught (phase_after self.old.core H) input.now)
+            → IfOk result (λ o. CoreSteps H moment input.now
+            (history.caught (phase_after self.old.core H) input.now)
             (state_of self.old) (state_of self.new) o) }
         ensures err { OnErr result (state_of self.new ≡ state_of self.old) }
     {
@@ -97,7 +98,8 @@ impl Ledger {
         requires limits { InLimits self.old.core.config }
         requires stands { (H : List places.Event) × core.StandsFor self.old.core H }
         ensures ok { (H : List places.Event) → core.StandsFor self.old.core H
-            → IfOk result (λ o. Steps H (max self.old.moment moment) input.now (state_of self.old) (state_of self.new) o) }
+            → IfOk result (λ o. Steps H (max self.old.moment moment) input.now (state_of self.old)
+            (state_of self.new) o) }
         ensures err { OnErr result (state_of self.new ≡ state_of self.old) }
     {
         let now = self.moment.max(moment);
@@ -134,9 +136,11 @@ impl BookCore {
         input: &BookInput,
     ) -> Result<BookOutputs, NoMemory>
         ensures answers { (H : List BookEvent) → BookStandsFor self.old H → IfOk result (λ o. o
-            ≡ book_outputs_after self.old.core.config H (record { moment = moment; input = input.now })) }
+            ≡ book_outputs_after self.old.core.config H
+            (record { moment = moment; input = input.now })) }
         ensures stands { (H : List BookEvent) → BookStandsFor self.old H
-            → OnOk result (BookStandsFor self.new (H ++ record { moment = moment; input = input.now } ∷ [])) }
+            → OnOk result
+            (BookStandsFor self.new (H ++ record { moment = moment; input = input.now } ∷ [])) }
         ensures config { self.new.core.config ≡ self.old.core.config }
         ensures err { OnErr result (self.new ≡ self.old) }
     {

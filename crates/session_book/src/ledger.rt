@@ -86,7 +86,8 @@ pub(crate) fn answer(
     code: u32,
 ) -> Result<BookOutput, NoMemory>
     requires { InLimits config.now }
-    ensures { IfOk result (λ o. o ≡ BookOutput.Core (Output.Send (answers.answer_text config.now.host config.now.realm asked.now session.now code))) }
+    ensures { IfOk result (λ o. o ≡ BookOutput.Core (Output.Send
+        (answers.answer_text config.now.host config.now.realm asked.now session.now code))) }
 {
     let octets = write_answer(
         alloc,
@@ -160,7 +161,8 @@ fn abort_of(
     entry: &Entry,
     client: &Client,
 ) -> Result<Abort, NoMemory>
-    ensures { IfOk result (λ a. a ≡ history.abort_of (ask_view ask.now) number entry.now client.now) }
+    ensures { IfOk result
+        (λ a. a ≡ history.abort_of (ask_view ask.now) number entry.now client.now) }
 {
     let id = (number % 256) as u8;
     let octets = disconnect(alloc, client, id, user_of(entry), entry.acct.as_slice())?;
@@ -231,7 +233,8 @@ impl Ledger {
         core: Core,
         capacity: u32,
     ) -> Result<Ledger, NoMemory>
-        ensures { IfOk result (λ l. state_of l ≡ record { core = core; rows = []; aborts = []; opened = 0; moment = 0 }) }
+        ensures { IfOk result (λ l. state_of l
+            ≡ record { core = core; rows = []; aborts = []; opened = 0; moment = 0 }) }
     {
         Ok(Ledger {
             core,
@@ -245,7 +248,8 @@ impl Ledger {
     /// An answer to an Abort-Session-Request that opens no abort.
     fn refuse(&self, alloc: Global, ask: &Ask<'_>, code: u32) -> Result<Considered, NoMemory>
         requires { InLimits self.now.core.config }
-        ensures { IfOk result (λ c. own_by c ≡ history.says (history.answer self.now.core.config (ask_view ask.now) code)) }
+        ensures { IfOk result (λ c. own_by c
+            ≡ history.says (history.answer self.now.core.config (ask_view ask.now) code)) }
     {
         let output = answer(alloc, self.core.config(), &ask.asked, ask.session, code)?;
         Ok(Considered::Says { output })
@@ -255,7 +259,8 @@ impl Ledger {
     fn opening(&self, alloc: Global, ask: &Ask<'_>, entry: &Entry) -> Result<Considered, NoMemory>
         requires { InLimits self.now.core.config }
         ensures { IfOk result (λ c. own_by c
-            ≡ history.opening self.now.core.config (ask_view ask.now) self.now.opened entry.now (history.client_at self.now.core.config entry.now.address)) }
+            ≡ history.opening self.now.core.config (ask_view ask.now) self.now.opened entry.now
+            (history.client_at self.now.core.config entry.now.address)) }
     {
         match client_at(self.core.config(), entry.address) {
             None => self.refuse(alloc, ask, UNABLE_TO_COMPLY),
@@ -274,7 +279,8 @@ impl Ledger {
     ) -> Result<Considered, NoMemory>
         requires { InLimits self.now.core.config }
         ensures own { IfOk result (λ c. own_by c
-            ≡ history.on_session self.now.core.config self.now.aborts (ask_view ask.now) self.now.opened (option_copied entry.entry)) }
+            ≡ history.on_session self.now.core.config self.now.aborts (ask_view ask.now)
+            self.now.opened (option_copied entry.entry)) }
         ensures room { IfOk result (λ c. MayOpen self.now.aborts c) }
     {
         let Some(entry) = entry else {
@@ -290,7 +296,8 @@ impl Ledger {
     /// What an Abort-Session-Request leads to. Nothing is changed yet.
     fn considered(&self, alloc: Global, ask: &Ask<'_>) -> Result<Considered, NoMemory>
         requires { InLimits self.now.core.config }
-        ensures own { IfOk result (λ c. own_by c ≡ asked_of (state_of self.now) (ask_view ask.now)) }
+        ensures own { IfOk result
+            (λ c. own_by c ≡ asked_of (state_of self.now) (ask_view ask.now)) }
         ensures room { IfOk result (λ c. MayOpen self.now.aborts c) }
     {
         if are_repeats(ask, self.aborts.as_slice()) {
@@ -311,8 +318,10 @@ impl Ledger {
         ask: &Ask<'_>,
     ) -> Result<BookOutputs, NoMemory>
         requires { InLimits self.old.core.config }
-        ensures outputs { IfOk result (λ o. o ≡ (asked_of (state_of self.old) (ask_view ask.now)).outputs) }
-        ensures state { OnOk result (DoesOwn moment (asked_of (state_of self.old) (ask_view ask.now)) (state_of self.old) (state_of self.new)) }
+        ensures outputs { IfOk result
+            (λ o. o ≡ (asked_of (state_of self.old) (ask_view ask.now)).outputs) }
+        ensures state { OnOk result (DoesOwn moment (asked_of (state_of self.old)
+            (ask_view ask.now)) (state_of self.old) (state_of self.new)) }
         ensures err { OnErr result (self.new ≡ self.old) }
     {
         // As many are never opened.
@@ -345,8 +354,10 @@ impl Ledger {
         octets: &[u8],
     ) -> Result<BookOutputs, NoMemory>
         requires { InLimits self.old.core.config }
-        ensures outputs { IfOk result (λ o. o ≡ (own_on_control (state_of self.old) address port octets.now).outputs) }
-        ensures state { OnOk result (DoesOwn moment (own_on_control (state_of self.old) address port octets.now) (state_of self.old) (state_of self.new)) }
+        ensures outputs { IfOk result
+            (λ o. o ≡ (own_on_control (state_of self.old) address port octets.now).outputs) }
+        ensures state { OnOk result (DoesOwn moment (own_on_control (state_of self.old) address port
+            octets.now) (state_of self.old) (state_of self.new)) }
         ensures err { OnErr result (self.new ≡ self.old) }
     {
         let config = self.core.config();

@@ -110,7 +110,8 @@ fn overdue_outputs(
 fn apply(sessions: &mut Sessions, capacity: u32, plan: Plan, session: Option<&[u8]>)
     requires room { 0 < spare sessions.old.map }
     requires short { IfSome (option_copied session) (λ s. length s ≤ 1024) }
-    ensures { Changes capacity (planned_for plan (option_copied session.entry)) sessions.old.map.entries sessions.new.map.entries }
+    ensures { Changes capacity (planned_for plan (option_copied session.entry))
+        sessions.old.map.entries sessions.new.map.entries }
 {
     let Some(session) = session else {
         return;
@@ -124,7 +125,8 @@ fn apply(sessions: &mut Sessions, capacity: u32, plan: Plan, session: Option<&[u
 
 /// Ends all aborts where the link is closed; else a Tick ages them.
 fn pass(aborts: &mut Aborts, closed: bool, input: &Input, moment: u64)
-    ensures { aborts.new ≡ deeds.after (if closed then deeds.Ends else history.tick_deed input.now) moment aborts.old }
+    ensures { aborts.new ≡ deeds.after (if closed then deeds.Ends else history.tick_deed input.now)
+        moment aborts.old }
 {
     if closed {
         aborts.clear();
@@ -178,7 +180,8 @@ impl Ledger {
         input: &Input,
     ) -> Result<Vec<BookOutput>, NoMemory>
         requires { InLimits self.now.core.config }
-        ensures { IfOk result (λ v. v.items ≡ history.deed_outputs self.now.core.config moment (history.tick_deed input.now) self.now.aborts) }
+        ensures { IfOk result (λ v. v.items ≡ history.deed_outputs self.now.core.config moment
+            (history.tick_deed input.now) self.now.aborts) }
     {
         if matches!(input, Input::Tick) {
             overdue_outputs(alloc, self.core.config(), moment, self.aborts.as_slice())
@@ -191,7 +194,8 @@ impl Ledger {
     fn room(&self, moment: u64) -> usize
         ensures few { result ≤ 4294967298 }
         ensures room { (H : List places.Event) → core.StandsFor self.now.core H
-            → 3 + most_resent self.now.core.config (rule.past self.now.core.config H) (max (places.now (rule.past self.now.core.config H)) moment) ≤ result }
+            → 3 + most_resent self.now.core.config (rule.past self.now.core.config H)
+            (max (places.now (rule.past self.now.core.config H)) moment) ≤ result }
     {
         match self.core.phase() {
             Phase::Serving => FEW,
@@ -209,7 +213,8 @@ impl Ledger {
         ensures state { state_of self.new ≡ state_of self.old }
         ensures prepared { (H : List places.Event) → core.StandsFor self.old.core H
             → IfOk result (IsPrepared (state_of self.old) moment input.now
-            (3 + most_resent self.old.core.config (rule.past self.old.core.config H) (max (places.now (rule.past self.old.core.config H)) moment))) }
+            (3 + most_resent self.old.core.config (rule.past self.old.core.config H)
+            (max (places.now (rule.past self.old.core.config H)) moment))) }
         ensures room { OnOk result (0 < spare self.new.sessions.map) }
     {
         let plan = plan_for(alloc, input)?;
@@ -228,10 +233,13 @@ impl Ledger {
         prepared: Prepared,
         from_core: Outputs,
     ) -> BookOutputs
-        requires prepared { IsPrepared (state_of self.old) moment input.now (length from_core) prepared }
+        requires prepared { IsPrepared (state_of self.old) moment input.now (length from_core)
+            prepared }
         requires room { 0 < spare self.old.sessions.map }
-        ensures outputs { result ≡ history.passed_outputs self.old.core.config moment input.now from_core self.old.aborts }
-        ensures state { Does moment (history.taken_change input.now (sends_session from_core)) (history.passed_deed input.now from_core)
+        ensures outputs { result ≡ history.passed_outputs self.old.core.config moment input.now
+            from_core self.old.aborts }
+        ensures state { Does moment (history.taken_change input.now (sends_session from_core))
+            (history.passed_deed input.now from_core)
             (state_of self.old) (state_of self.new) }
         ensures core { self.new.core ≡ self.old.core }
     {
@@ -263,8 +271,10 @@ impl Ledger {
     ) -> Result<BookOutputs, NoMemory>
         requires limits { InLimits self.old.core.config }
         requires stands { (H : List places.Event) × core.StandsFor self.old.core H }
-        ensures outputs { (H : List places.Event) → core.StandsFor self.old.core H → IfOk result (λ o. o
-            ≡ history.passed_outputs self.old.core.config moment input.now (place_after self.old.core H moment input.now).outputs self.old.aborts) }
+        ensures outputs { (H : List places.Event) → core.StandsFor self.old.core H
+            → IfOk result (λ o. o
+            ≡ history.passed_outputs self.old.core.config moment input.now
+            (place_after self.old.core H moment input.now).outputs self.old.aborts) }
         ensures state { (H : List places.Event) → core.StandsFor self.old.core H
             → OnOk result (Passes H moment input.now (state_of self.old) (state_of self.new)) }
         ensures err { OnErr result (state_of self.new ≡ state_of self.old) }

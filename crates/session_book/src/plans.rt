@@ -49,7 +49,8 @@ fn copy_of(alloc: Global, value: Option<&[u8]>) -> Result<Option<AttributeValue>
 /// A Start without an Acct-Session-Id does nothing.
 fn plan_start(alloc: Global, address: u32, packet: &Packet<'_>) -> Result<Plan, NoMemory>
     ensures { (session : List ℕ) → IfOk result (λ p. planned p session
-        ≡ history.started address packet.now session (values.first_value 44 packet.now.attributes)) }
+        ≡ history.started address packet.now session
+        (values.first_value 44 packet.now.attributes)) }
 {
     let Some(acct) = first_value(packet, ACCT_SESSION_ID) else {
         return Ok(Plan::Nothing);
@@ -66,7 +67,8 @@ fn plan_start(alloc: Global, address: u32, packet: &Packet<'_>) -> Result<Plan, 
 }
 
 fn plan_packet(alloc: Global, address: u32, packet: &Packet<'_>) -> Result<Plan, NoMemory>
-    ensures { (session : List ℕ) → IfOk result (λ p. planned p session ≡ history.recorded address packet.now session) }
+    ensures { (session : List ℕ)
+        → IfOk result (λ p. planned p session ≡ history.recorded address packet.now session) }
 {
     match status(packet) {
         START => plan_start(alloc, address, packet),
@@ -87,7 +89,8 @@ fn plan_datagram(alloc: Global, address: u32, octets: &[u8]) -> Result<Plan, NoM
 
 /// What an input does to the book where it is taken up.
 pub(crate) fn plan_for(alloc: Global, input: &Input) -> Result<Plan, NoMemory>
-    ensures { (session : List ℕ) → IfOk result (λ p. planned p session ≡ history.input_change input.now session) }
+    ensures { (session : List ℕ)
+        → IfOk result (λ p. planned p session ≡ history.input_change input.now session) }
 {
     match input {
         Input::Datagram {

@@ -67,7 +67,8 @@ impl Sessions {
         requires room { 0 < spare self.old.map }
         requires short { length session.now ≤ 1024 }
         ensures { (rows : List Row) → Holds self.old.map.entries rows
-            → Holds self.new.map.entries (appended capacity session.now entry rows (entry_of session.now rows)) }
+            → Holds self.new.map.entries
+            (appended capacity session.now entry rows (entry_of session.now rows)) }
     {
         if self.map.len() < capacity as usize && self.get(session).is_none() {
             // There is room for it, so it is not refused.
@@ -77,7 +78,8 @@ impl Sessions {
 
     /// Where the entry of this session stands.
     fn place_of(&self, session: &[u8]) -> Option<usize>
-        ensures place { result ≡ position (pointwise nat_eq session.now) (keys_of self.now.map.entries) }
+        ensures place { result
+            ≡ position (pointwise nat_eq session.now) (keys_of self.now.map.entries) }
         ensures known { is_some result ≡ is_some (entry_of session.now self.now.map.entries) }
     {
         self.map.get_index_of(&SessionKey::lent(session))

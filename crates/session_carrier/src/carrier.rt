@@ -58,7 +58,8 @@ impl<T: Drop> From<AllocFailed<T>> for CarrierFault {
 #[tactic(auto, unfolding(crate::specs::Session::class_text))]
 pub fn class_of(alloc: Global, session: &[u8]) -> Result<Octets, CarrierFault>
     ensures ok { IfOk result (λ c. c ≡ class_text session.now) }
-    ensures too_long { IsErrOf result CarrierFault.TooLong ↔ (253 < length (class_text session.now)) }
+    ensures too_long { IsErrOf result CarrierFault.TooLong
+        ↔ (253 < length (class_text session.now)) }
 {
     if session.len() > LONGEST_VALUE - PREFIX.len() {
         return Err(CarrierFault::TooLong);
@@ -78,7 +79,8 @@ pub fn state_of(
     session: &[u8],
 ) -> Result<Octets, CarrierFault>
     ensures ok { IfOk result (λ s. s ≡ state_text host.now realm.now session.now) }
-    ensures too_long { IsErrOf result CarrierFault.TooLong ↔ (253 < length (state_text host.now realm.now session.now)) }
+    ensures too_long { IsErrOf result CarrierFault.TooLong
+        ↔ (253 < length (state_text host.now realm.now session.now)) }
 {
     let carried = host
         .len()

@@ -61,7 +61,8 @@ fn checked<'a>(host: &'a [u8], realm: &'a [u8], session: &'a [u8]) -> Option<Car
 pub fn read_state(value: &[u8]) -> Option<Carried<'_>>
     ensures exact { option_map carried_view result ≡ carriers.read_state value.now }
     ensures found { IfSome result (λ c. IsState value.now c.host.now c.realm.now c.session.now) }
-    ensures only { (host realm session : List ℕ) → IsState value.now host realm session → option_map carried_view result ≡ Some (record { host = host; realm = realm; session = session }) }
+    ensures only { (host realm session : List ℕ) → IsState value.now host realm session → option_map
+        carried_view result ≡ Some (record { host = host; realm = realm; session = session }) }
 {
     let text = behind_prefix(value)?;
     let (host, rest) = cut(text)?;
@@ -73,7 +74,8 @@ pub fn read_state(value: &[u8]) -> Option<Carried<'_>>
 pub fn read_class(value: &[u8]) -> Option<&[u8]>
     ensures exact { option_copied result ≡ carriers.read_class value.now }
     ensures found { IfSome result (λ s. IsClass value.now s.now) }
-    ensures only { (session : List ℕ) → IsClass value.now session → option_copied result ≡ Some session }
+    ensures only { (session : List ℕ) → IsClass value.now session
+        → option_copied result ≡ Some session }
 {
     let session = behind_prefix(value)?;
     if is_session_text(session) {

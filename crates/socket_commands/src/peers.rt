@@ -42,13 +42,20 @@ where
     L: Dialer,
     ensures begun { result.status ≢ Status.Usage }
     ensures trail { result.trail ≡ None }
-    ensures ends { HomeEnds L.In.told L.Out.told result.status result.home millis (S.left input.old) (S.left input.new)
-        (L.told world.dialer) (L.told result.world.dialer) (C.readings world.clock) (C.readings result.world.clock) (K.written output.old) (K.written output.new) }
-    ensures causes { HomeCausedBy L.In.told L.Out.told result.status result.home millis (S.faults input.old) (S.faults input.new)
-        (L.told world.dialer) (L.told result.world.dialer) (C.readings world.clock) (C.readings result.world.clock) (K.written output.old) (K.written output.new) }
-    ensures counts { HomeCounts result.status (S.faults input.old) (S.faults input.new) (K.faults output.old) (K.faults output.new) }
-    ensures complete { IsSoundHome L.In.told L.Out.told result.home (S.left input.old) → ¬ Rose (S.faults input.old) (S.faults input.new)
-        → ¬ Rose (K.faults output.old) (K.faults output.new) → ¬ Rose (L.told world.dialer).faults (L.told result.world.dialer).faults
+    ensures ends { HomeEnds L.In.told L.Out.told result.status result.home millis (S.left input.old)
+        (S.left input.new)
+        (L.told world.dialer) (L.told result.world.dialer) (C.readings world.clock)
+        (C.readings result.world.clock) (K.written output.old) (K.written output.new) }
+    ensures causes { HomeCausedBy L.In.told L.Out.told result.status result.home millis
+        (S.faults input.old) (S.faults input.new)
+        (L.told world.dialer) (L.told result.world.dialer) (C.readings world.clock)
+        (C.readings result.world.clock) (K.written output.old) (K.written output.new) }
+    ensures counts { HomeCounts result.status (S.faults input.old) (S.faults input.new)
+        (K.faults output.old) (K.faults output.new) }
+    ensures complete { IsSoundHome L.In.told L.Out.told result.home (S.left input.old)
+        → ¬ Rose (S.faults input.old) (S.faults input.new)
+        → ¬ Rose (K.faults output.old) (K.faults output.new)
+        → ¬ Rose (L.told world.dialer).faults (L.told result.world.dialer).faults
         → (result.status ≡ Status.Done) ⊎ (result.status ≡ Status.OutOfMemory) }
 {
     let World {
@@ -93,11 +100,15 @@ where
     requires row { (D.told world.auth).row ≡ 0 }
     ensures begun { result.status ≢ Status.Usage }
     ensures trail { (result.trail ≡ None) × (result.home ≡ None) }
-    ensures ends { NasRan result.status place.address place.port millis (S.left input.old) (S.left input.new) (K.written output.old) (K.written output.new)
-        (C.readings world.clock) (C.readings result.world.clock) (D.told world.auth) (D.told result.world.auth) }
-    ensures counts { EndsCounts result.status (S.ends input.old) (S.ends input.new) (S.faults input.old) (S.faults input.new)
+    ensures ends { NasRan result.status place.address place.port millis (S.left input.old)
+        (S.left input.new) (K.written output.old) (K.written output.new)
+        (C.readings world.clock) (C.readings result.world.clock) (D.told world.auth)
+        (D.told result.world.auth) }
+    ensures counts { EndsCounts result.status (S.ends input.old) (S.ends input.new)
+        (S.faults input.old) (S.faults input.new)
         (K.faults output.old) (K.faults output.new) }
-    ensures complete { TakesAll (S.left input.old) → ¬ Rose (S.faults input.old) (S.faults input.new) → ¬ Rose (K.faults output.old) (K.faults output.new)
+    ensures complete { TakesAll (S.left input.old) → ¬ Rose (S.faults input.old)
+        (S.faults input.new) → ¬ Rose (K.faults output.old) (K.faults output.new)
         → ¬ Rose (D.told world.auth).faults (D.told result.world.auth).faults
         → (result.status ≡ Status.Done) ⊎ (result.status ≡ Status.OutOfMemory) }
 {

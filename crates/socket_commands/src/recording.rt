@@ -76,18 +76,27 @@ where
     T: Sink + Send + Drop + 'static,
     V: Crew<Recorder<RecordText<Q, T>>>,
     requires limits { InLimits config }
-    requires rows { ((D.told world.auth).row ≡ 0) × ((D.told world.acct).row ≡ 0) × ((L.told world.dialer).row ≡ 0) }
+    requires rows { ((D.told world.auth).row ≡ 0) × ((D.told world.acct).row ≡ 0)
+        × ((L.told world.dialer).row ≡ 0) }
     requires sound { tape.writer.faults ≡ 0 }
     ensures home { result.finish.home ≡ None }
-    ensures recorded { RecordNot config world result.finish.world result.finish.status result.finish.trail (T.written tape.writer.sink) (T.written result.tape.writer.sink) result.closed
-        (T.faults tape.writer.sink) (T.faults result.tape.writer.sink) (V.faults tape.crew) (V.faults result.tape.crew)
-        ⊎ RecordRan C.readings D.told L.In.told L.Out.told L.told L.made W.faults W.started config millis world result.finish.world result.finish.status result.finish.trail
+    ensures recorded { RecordNot config world result.finish.world result.finish.status
+        result.finish.trail (T.written tape.writer.sink) (T.written result.tape.writer.sink)
+        result.closed
+        (T.faults tape.writer.sink) (T.faults result.tape.writer.sink) (V.faults tape.crew)
+        (V.faults result.tape.crew)
+        ⊎ RecordRan C.readings D.told L.In.told L.Out.told L.told L.made W.faults W.started config
+        millis world result.finish.world result.finish.status result.finish.trail
         (T.written tape.writer.sink) (T.written result.tape.writer.sink) result.closed }
     ensures ends { IsRunEnd result.finish.status }
-    ensures wrote { result.closed ≡ None → result.finish.status ≡ Status.WriteFault → Rose (T.faults tape.writer.sink) (T.faults result.tape.writer.sink) }
-    ensures sound { result.closed ≡ None → ¬ Rose (T.faults tape.writer.sink) (T.faults result.tape.writer.sink)
-        → ¬ Rose (D.told world.auth).faults (D.told result.finish.world.auth).faults → ¬ Rose (D.told world.acct).faults (D.told result.finish.world.acct).faults
-        → ¬ Rose (L.told world.dialer).faults (L.told result.finish.world.dialer).faults → ¬ Rose (W.faults world.crew) (W.faults result.finish.world.crew)
+    ensures wrote { result.closed ≡ None → result.finish.status ≡ Status.WriteFault
+        → Rose (T.faults tape.writer.sink) (T.faults result.tape.writer.sink) }
+    ensures sound { result.closed ≡ None
+        → ¬ Rose (T.faults tape.writer.sink) (T.faults result.tape.writer.sink)
+        → ¬ Rose (D.told world.auth).faults (D.told result.finish.world.auth).faults
+        → ¬ Rose (D.told world.acct).faults (D.told result.finish.world.acct).faults
+        → ¬ Rose (L.told world.dialer).faults (L.told result.finish.world.dialer).faults
+        → ¬ Rose (W.faults world.crew) (W.faults result.finish.world.crew)
         → ¬ Rose (V.faults tape.crew) (V.faults result.tape.crew)
         → IsSoundEnd result.finish.status }
 {
@@ -165,23 +174,41 @@ where
     Q: Wait + rt::Clock + Send + Drop + 'static,
     T: Sink + Send + Drop + 'static,
     V: Crew<Recorder<RecordText<Q, T>>>,
-    requires rows { ((D.told world.auth).row ≡ 0) × ((D.told world.acct).row ≡ 0) × ((L.told world.dialer).row ≡ 0) }
+    requires rows { ((D.told world.auth).row ≡ 0) × ((D.told world.acct).row ≡ 0)
+        × ((L.told world.dialer).row ≡ 0) }
     requires sound { tape.writer.faults ≡ 0 }
     ensures begun { result.finish.status ≢ Status.Usage }
     ensures home { result.finish.home ≡ None }
     ensures recorded { (SettingsNot result.finish.status (S.left input.old) (S.left input.new)
-        × (result ≡ record { finish = record { status = result.finish.status; world = world; trail = None; home = None }; tape = tape; closed = None }))
-        ⊎ Recorded C.readings D.told L.In.told L.Out.told L.told L.made W.faults W.started millis (S.left input.old) (S.left input.new)
+        × (result ≡ record {
+          finish = record {
+            status = result.finish.status;
+            world = world;
+            trail =
+                None;
+            home = None;
+          };
+          tape = tape;
+          closed = None;
+        }))
+        ⊎ Recorded C.readings D.told L.In.told L.Out.told L.told L.made W.faults W.started millis
+        (S.left input.old) (S.left input.new)
         world result.finish.world result.finish.status result.finish.trail
-        (T.written tape.writer.sink) (T.written result.tape.writer.sink) (T.faults tape.writer.sink) (T.faults result.tape.writer.sink)
+        (T.written tape.writer.sink) (T.written result.tape.writer.sink) (T.faults tape.writer.sink)
+        (T.faults result.tape.writer.sink)
         (V.faults tape.crew) (V.faults result.tape.crew) result.closed }
-    ensures counts { result.closed ≡ None → EndsCounts result.finish.status (S.ends input.old) (S.ends input.new) (S.faults input.old) (S.faults input.new)
+    ensures counts { result.closed ≡ None → EndsCounts result.finish.status (S.ends input.old)
+        (S.ends input.new) (S.faults input.old) (S.faults input.new)
         (T.faults tape.writer.sink) (T.faults result.tape.writer.sink) }
-    ensures complete { (X : List ℕ) (config : Config) → S.left input.old ≡ Some X → settings_in X ≡ Ok config → length X ≤ most_whole
+    ensures complete { (X : List ℕ) (config : Config) → S.left input.old ≡ Some X
+        → settings_in X ≡ Ok config → length X ≤ most_whole
         → ¬ Rose (S.faults input.old) (S.faults input.new)
-        → result.closed ≡ None → ¬ Rose (T.faults tape.writer.sink) (T.faults result.tape.writer.sink)
-        → ¬ Rose (D.told world.auth).faults (D.told result.finish.world.auth).faults → ¬ Rose (D.told world.acct).faults (D.told result.finish.world.acct).faults
-        → ¬ Rose (L.told world.dialer).faults (L.told result.finish.world.dialer).faults → ¬ Rose (W.faults world.crew) (W.faults result.finish.world.crew)
+        → result.closed ≡ None
+        → ¬ Rose (T.faults tape.writer.sink) (T.faults result.tape.writer.sink)
+        → ¬ Rose (D.told world.auth).faults (D.told result.finish.world.auth).faults
+        → ¬ Rose (D.told world.acct).faults (D.told result.finish.world.acct).faults
+        → ¬ Rose (L.told world.dialer).faults (L.told result.finish.world.dialer).faults
+        → ¬ Rose (W.faults world.crew) (W.faults result.finish.world.crew)
         → ¬ Rose (V.faults tape.crew) (V.faults result.tape.crew)
         → IsSoundEnd result.finish.status }
 {

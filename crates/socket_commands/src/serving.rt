@@ -52,7 +52,8 @@ fn failed(end: Status) -> Status
 
 /// Writes the line that tells of a run, and gives the status of the command.
 fn report<K: Sink>(alloc: Global, output: &mut K, entries: u64, lost: u64, end: Status) -> Status
-    ensures { Reports end result (served_line entries lost) (K.written output.old) (K.written output.new) (K.faults output.old) (K.faults output.new) }
+    ensures { Reports end result (served_line entries lost) (K.written output.old)
+        (K.written output.new) (K.faults output.old) (K.faults output.new) }
 {
     let Ok(line) = line_of(alloc, entries, lost) else {
         return Status::OutOfMemory;
@@ -95,17 +96,23 @@ where
     L::Out: Drop,
     W: Crew<Worker<C, D, L::In>>,
     requires limits { InLimits config }
-    requires rows { ((D.told world.auth).row ≡ 0) × ((D.told world.acct).row ≡ 0) × ((L.told world.dialer).row ≡ 0) }
+    requires rows { ((D.told world.auth).row ≡ 0) × ((D.told world.acct).row ≡ 0)
+        × ((L.told world.dialer).row ≡ 0) }
     ensures home { result.home ≡ None }
-    ensures ran { (end : Status) × RanFor C.readings D.told L.In.told L.Out.told L.told L.made W.faults W.started config millis world result.world end result.trail (λ first. IsAny)
-        × IfSome result.trail (λ t. Reports end result.status (served_line t.entries t.lost) (K.written output.old) (K.written output.new) (K.faults output.old) (K.faults output.new))
+    ensures ran { (end : Status) × RanFor C.readings D.told L.In.told L.Out.told L.told L.made
+        W.faults W.started config millis world result.world end result.trail (λ first. IsAny)
+        × IfSome result.trail (λ t. Reports end result.status (served_line t.entries t.lost)
+        (K.written output.old) (K.written output.new) (K.faults output.old) (K.faults output.new))
         × IfNone result.trail (result.status ≡ end) }
     ensures unwritten { IfNone result.trail (output.new ≡ output.old) }
     ensures ends { IsRunEnd result.status }
-    ensures wrote { result.status ≡ Status.WriteFault → Rose (K.faults output.old) (K.faults output.new) }
+    ensures wrote { result.status ≡ Status.WriteFault
+        → Rose (K.faults output.old) (K.faults output.new) }
     ensures sound { ¬ Rose (K.faults output.old) (K.faults output.new)
-        → ¬ Rose (D.told world.auth).faults (D.told result.world.auth).faults → ¬ Rose (D.told world.acct).faults (D.told result.world.acct).faults
-        → ¬ Rose (L.told world.dialer).faults (L.told result.world.dialer).faults → ¬ Rose (W.faults world.crew) (W.faults result.world.crew)
+        → ¬ Rose (D.told world.auth).faults (D.told result.world.auth).faults
+        → ¬ Rose (D.told world.acct).faults (D.told result.world.acct).faults
+        → ¬ Rose (L.told world.dialer).faults (L.told result.world.dialer).faults
+        → ¬ Rose (W.faults world.crew) (W.faults result.world.crew)
         → IsSoundEnd result.status }
 {
     let World {
@@ -168,18 +175,26 @@ where
     L::In: Send + Drop + 'static,
     L::Out: Drop,
     W: Crew<Worker<C, D, L::In>>,
-    requires rows { ((D.told world.auth).row ≡ 0) × ((D.told world.acct).row ≡ 0) × ((L.told world.dialer).row ≡ 0) }
+    requires rows { ((D.told world.auth).row ≡ 0) × ((D.told world.acct).row ≡ 0)
+        × ((L.told world.dialer).row ≡ 0) }
     ensures begun { result.status ≢ Status.Usage }
     ensures home { result.home ≡ None }
-    ensures served { ServesBy C.readings D.told L.In.told L.Out.told L.told L.made W.faults W.started millis (S.left input.old) (S.left input.new)
-        world result.world result.status result.trail (K.written output.old) (K.written output.new) (K.faults output.old) (K.faults output.new) }
-    ensures unwritten { IfNone result.trail (output.new ≡ output.old) }
-    ensures counts { EndsCounts result.status (S.ends input.old) (S.ends input.new) (S.faults input.old) (S.faults input.new)
+    ensures served { ServesBy C.readings D.told L.In.told L.Out.told L.told L.made W.faults
+        W.started millis (S.left input.old) (S.left input.new)
+        world result.world result.status result.trail (K.written output.old) (K.written output.new)
         (K.faults output.old) (K.faults output.new) }
-    ensures complete { (X : List ℕ) (config : Config) → S.left input.old ≡ Some X → settings_in X ≡ Ok config → length X ≤ most_whole
-        → ¬ Rose (S.faults input.old) (S.faults input.new) → ¬ Rose (K.faults output.old) (K.faults output.new)
-        → ¬ Rose (D.told world.auth).faults (D.told result.world.auth).faults → ¬ Rose (D.told world.acct).faults (D.told result.world.acct).faults
-        → ¬ Rose (L.told world.dialer).faults (L.told result.world.dialer).faults → ¬ Rose (W.faults world.crew) (W.faults result.world.crew)
+    ensures unwritten { IfNone result.trail (output.new ≡ output.old) }
+    ensures counts { EndsCounts result.status (S.ends input.old) (S.ends input.new)
+        (S.faults input.old) (S.faults input.new)
+        (K.faults output.old) (K.faults output.new) }
+    ensures complete { (X : List ℕ) (config : Config) → S.left input.old ≡ Some X
+        → settings_in X ≡ Ok config → length X ≤ most_whole
+        → ¬ Rose (S.faults input.old) (S.faults input.new)
+        → ¬ Rose (K.faults output.old) (K.faults output.new)
+        → ¬ Rose (D.told world.auth).faults (D.told result.world.auth).faults
+        → ¬ Rose (D.told world.acct).faults (D.told result.world.acct).faults
+        → ¬ Rose (L.told world.dialer).faults (L.told result.world.dialer).faults
+        → ¬ Rose (W.faults world.crew) (W.faults result.world.crew)
         → IsSoundEnd result.status }
 {
     match take_settings(alloc, input) {

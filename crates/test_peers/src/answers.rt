@@ -68,7 +68,8 @@ fn result_of(users: &[User], command: u32, avps: &[u8]) -> u32
 /// Puts the request's Session-Id, where it has one that is short enough.
 fn put_session(writer: &mut MessageWriter, avps: &[u8]) -> Result<(), NoMemory>
     requires { list_length writer.old ≤ 40000 }
-    ensures { OnOk result (Puts writer.old writer.new (specs.session_avps (finding.first_avp 263 (readable_avps avps.now))) 4107) }
+    ensures { OnOk result (Puts writer.old writer.new
+        (specs.session_avps (finding.first_avp 263 (readable_avps avps.now))) 4107) }
 {
     match first_avp(avps, SESSION_ID) {
         Some(avp) => {
@@ -85,7 +86,8 @@ fn put_session(writer: &mut MessageWriter, avps: &[u8]) -> Result<(), NoMemory>
 /// Puts the first number of this code that the request has, where it has one.
 fn put_same_number(writer: &mut MessageWriter, avps: &[u8], code: u32) -> Result<(), NoMemory>
     requires { list_length writer.old ≤ 40100 }
-    ensures { OnOk result (Puts writer.old writer.new (specs.same_number code (readable_avps avps.now)) 15) }
+    ensures { OnOk result
+        (Puts writer.old writer.new (specs.same_number code (readable_avps avps.now)) 15) }
 {
     match find_avp(avps, code, 4, 4) {
         Some(avp) => writer.put_plain(code, avp.body),
@@ -96,7 +98,8 @@ fn put_same_number(writer: &mut MessageWriter, avps: &[u8], code: u32) -> Result
 /// Puts the product's name, which is not mandatory.
 fn put_product_name(writer: &mut MessageWriter) -> Result<(), NoMemory>
     requires { list_length writer.old ≤ 40100 }
-    ensures { OnOk result (Puts writer.old writer.new (made 269 None false (codes "home") ∷ []) 15) }
+    ensures { OnOk result
+        (Puts writer.old writer.new (made 269 None false (codes "home") ∷ []) 15) }
 {
     writer.put_with_room(PRODUCT_NAME, None, false, b"home")
 }
@@ -124,7 +127,8 @@ fn put_capabilities(writer: &mut MessageWriter) -> Result<(), NoMemory>
 /// Puts what stands after Origin-Realm.
 fn put_details(writer: &mut MessageWriter, command: u32, avps: &[u8]) -> Result<(), NoMemory>
     requires { list_length writer.old ≤ 40000 }
-    ensures { OnOk result (Puts writer.old writer.new (specs.details command (readable_avps avps.now)) 77) }
+    ensures { OnOk result
+        (Puts writer.old writer.new (specs.details command (readable_avps avps.now)) 77) }
 {
     match command {
         CAPABILITIES_EXCHANGE => put_capabilities(writer),

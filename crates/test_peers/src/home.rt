@@ -60,7 +60,8 @@ impl Home {
 
     /// The answer to a message: None where it is no message, or an answer itself.
     pub fn step(&mut self, message: &[u8]) -> Result<Option<Octets>, NoMemory>
-        ensures answer { IfOk result (λ answer. answer ≡ answer_by_home self.old (read_message message.now)) }
+        ensures answer { IfOk result
+            (λ answer. answer ≡ answer_by_home self.old (read_message message.now)) }
         ensures users { self.new ≡ self.old }
     {
         let Ok(request) = parse(message) else {

@@ -17,7 +17,8 @@ fn first_separator(octets: &[u8], separator: u8) -> Option<usize>
 
 /// The first piece, and what stands after the separator behind it.
 pub(crate) fn cut(octets: &[u8], separator: u8) -> (&[u8], Option<&[u8]>)
-    ensures { pieces_of separator octets.now ≡ result.0.now ∷ pieces_left separator (option_copied result.1) }
+    ensures { pieces_of separator octets.now
+        ≡ result.0.now ∷ pieces_left separator (option_copied result.1) }
 {
     match first_separator(octets, separator) {
         Some(end) => (&octets[..end], Some(&octets[end + 1..])),

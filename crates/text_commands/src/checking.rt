@@ -34,10 +34,13 @@ pub fn check<S: Source, K: Sink>(alloc: Global, input: &mut S, output: &mut K) -
     ensures known { IsCheckEnd result }
     ensures ends { (X : List ℕ) → S.left input.old ≡ Some X
         → ChecksBy result X (S.left input.new) (K.written output.old) (K.written output.new) }
-    ensures counts { EndsCounts result (S.ends input.old) (S.ends input.new) (S.faults input.old) (S.faults input.new)
+    ensures counts { EndsCounts result (S.ends input.old) (S.ends input.new) (S.faults input.old)
+        (S.faults input.new)
         (K.faults output.old) (K.faults output.new) }
-    ensures complete { (X : List ℕ) (config : Config) → S.left input.old ≡ Some X → settings_in X ≡ Ok config → length X ≤ most_whole
-        → ¬ Rose (S.faults input.old) (S.faults input.new) → ¬ Rose (K.faults output.old) (K.faults output.new)
+    ensures complete { (X : List ℕ) (config : Config) → S.left input.old ≡ Some X
+        → settings_in X ≡ Ok config → length X ≤ most_whole
+        → ¬ Rose (S.faults input.old) (S.faults input.new)
+        → ¬ Rose (K.faults output.old) (K.faults output.new)
         → (result ≡ Status.Done) ⊎ (result ≡ Status.OutOfMemory) }
 {
     let config = match take_settings(alloc, input) {

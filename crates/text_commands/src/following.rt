@@ -34,17 +34,21 @@ pub trait Follower {
 
     /// Follows the next line, and prints what it gives.
     fn follow<K: Sink>(&mut self, alloc: Global, line: Line, sink: &mut K) -> Result<(), Status>
-        requires { (lines : List said.Line) × followed self.old lines × CanFollow (told_by lines) line }
+        requires { (lines : List said.Line) × followed self.old lines
+            × CanFollow (told_by lines) line }
         ensures same { rule self.new ≡ rule self.old }
         ensures follows { (lines : List said.Line) → followed self.old lines
-            → FollowsLine (rule self.old) (λ ls. followed self.new ls) result lines line (K.written sink.old) (K.written sink.new) }
-        ensures fault { result ≡ Err Status.WriteFault → Rose (K.faults sink.old) (K.faults sink.new) }
+            → FollowsLine (rule self.old) (λ ls. followed self.new ls) result lines line
+            (K.written sink.old) (K.written sink.new) }
+        ensures fault { result ≡ Err Status.WriteFault
+            → Rose (K.faults sink.old) (K.faults sink.new) }
         ensures faults_stay { K.faults sink.old ≤ K.faults sink.new };
 
     /// Prints what stands after all lines.
     fn close<K: Sink>(&self, alloc: Global, sink: &mut K) -> Status
         ensures closes { (lines : List said.Line) → followed self.now lines
-            → ClosesWith result ((rule self.now).close lines) (K.written sink.old) (K.written sink.new) }
+            → ClosesWith result ((rule self.now).close lines) (K.written sink.old)
+            (K.written sink.new) }
         ensures fault { result ≡ Status.WriteFault → Rose (K.faults sink.old) (K.faults sink.new) }
         ensures faults_stay { K.faults sink.old ≤ K.faults sink.new };
 
@@ -124,11 +128,15 @@ pub fn follow_transcript<F: Follower + Drop, S: Source, K: Sink>(
     ensures begun { result ≢ Status.Usage }
     ensures known { IsLinesEnd result }
     ensures ends { (X : List ℕ) → S.left input.old ≡ Some X
-        → EndsBy (transcript_task (F.rule follower)) result X (S.left input.new) (K.written output.old) (K.written output.new) }
-    ensures counts { EndsCounts result (S.ends input.old) (S.ends input.new) (S.faults input.old) (S.faults input.new)
+        → EndsBy (transcript_task (F.rule follower)) result X (S.left input.new)
+        (K.written output.old) (K.written output.new) }
+    ensures counts { EndsCounts result (S.ends input.old) (S.ends input.new) (S.faults input.old)
+        (S.faults input.new)
         (K.faults output.old) (K.faults output.new) }
-    ensures complete { (X : List ℕ) → S.left input.old ≡ Some X → (transcript_task (F.rule follower)).stop (lines_of X) ≡ None
-        → length X ≤ most_octets → ¬ Rose (S.faults input.old) (S.faults input.new) → ¬ Rose (K.faults output.old) (K.faults output.new)
+    ensures complete { (X : List ℕ) → S.left input.old ≡ Some X
+        → (transcript_task (F.rule follower)).stop (lines_of X) ≡ None
+        → length X ≤ most_octets → ¬ Rose (S.faults input.old) (S.faults input.new)
+        → ¬ Rose (K.faults output.old) (K.faults output.new)
         → (result ≡ Status.Done) ⊎ (result ≡ Status.OutOfMemory) }
 {
     // The memory of the reading is taken first: where it is wanting, the input is as it was.

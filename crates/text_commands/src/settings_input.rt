@@ -29,12 +29,15 @@ fn read_settings(alloc: Global, text: &[u8]) -> Result<Config, Status>
 
 /// The settings of the input, a TOML document of at most 2^20 octets.
 pub fn take_settings<S: Source>(alloc: Global, input: &mut S) -> Result<Config, Status>
-    ensures taken { IfOk result (λ config. SettingsTaken config (S.left input.old) (S.left input.new)) }
+    ensures taken { IfOk result
+        (λ config. SettingsTaken config (S.left input.old) (S.left input.new)) }
     ensures limits { IfOk result InLimits }
-    ensures not { IfErr result (λ status. SettingsNot status (S.left input.old) (S.left input.new)) }
+    ensures not { IfErr result
+        (λ status. SettingsNot status (S.left input.old) (S.left input.new)) }
     ensures ended { IfOk result (λ config. Rose (S.ends input.old) (S.ends input.new)) }
     ensures read { result ≡ Err Status.ReadFault → Rose (S.faults input.old) (S.faults input.new) }
-    ensures refused { (fault : ConfigFault) → result ≡ Err (Status.BadConfig fault) → Rose (S.ends input.old) (S.ends input.new) }
+    ensures refused { (fault : ConfigFault) → result ≡ Err (Status.BadConfig fault)
+        → Rose (S.ends input.old) (S.ends input.new) }
 {
     let text = match take_whole(alloc, input) {
         Ok(text) => text,

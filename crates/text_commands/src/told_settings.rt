@@ -9,7 +9,8 @@ use agent_status::Status;
 /// A further client of the settings, where some were told.
 pub fn join_client(told: &mut Option<Config>, client: Client) -> Result<(), Status>
     requires { IfSome told.old (λ config. find_address client.address config.clients ≡ None) }
-    ensures joins { OnOk result (told.new ≡ option_map (λ config. with_client config client) told.old) }
+    ensures joins { OnOk result
+        (told.new ≡ option_map (λ config. with_client config client) told.old) }
     ensures memory { IfErr result (λ status. status ≡ Status.OutOfMemory) }
 {
     match told {

@@ -42,10 +42,12 @@ fn room_after(taken: usize) -> usize
 fn read_front<S: Source>(source: &mut S, chunk: &mut [u8], room: usize) -> Option<usize>
     requires some { 0 < room }
     requires inside { room ≤ length chunk.old }
-    ensures reads { IfSome result (λ n. (n ≤ room) × Consumes (S.left source.old) (S.left source.new) (take n chunk.new)) }
+    ensures reads { IfSome result
+        (λ n. (n ≤ room) × Consumes (S.left source.old) (S.left source.new) (take n chunk.new)) }
     ensures kept { length chunk.new ≡ length chunk.old }
     ensures fails { result ≡ None → S.left source.new ≡ S.left source.old }
-    ensures end { result ≡ Some 0 → IsAtEnd (S.left source.old) × (S.left source.new ≡ S.left source.old) }
+    ensures end { result ≡ Some 0
+        → IsAtEnd (S.left source.old) × (S.left source.new ≡ S.left source.old) }
     ensures counts_ends { Counts (result ≡ Some 0) (S.ends source.old) (S.ends source.new) }
     ensures counts_faults { Counts (result ≡ None) (S.faults source.old) (S.faults source.new) }
 {

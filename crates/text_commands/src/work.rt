@@ -23,8 +23,10 @@ pub trait Work {
         requires { (lines : List (List ℕ)) × took self.old lines }
         ensures same { task self.new ≡ task self.old }
         ensures works { (lines : List (List ℕ)) → took self.old lines
-            → Works (task self.old) (λ lines. took self.new lines) result lines line.now (K.written sink.old) (K.written sink.new) }
-        ensures fault { result ≡ Err Status.WriteFault → Rose (K.faults sink.old) (K.faults sink.new) }
+            → Works (task self.old) (λ lines. took self.new lines) result lines line.now
+            (K.written sink.old) (K.written sink.new) }
+        ensures fault { result ≡ Err Status.WriteFault
+            → Rose (K.faults sink.old) (K.faults sink.new) }
         ensures faults_stay { K.faults sink.old ≤ K.faults sink.new };
 
     /// Writes what stands after all lines.
@@ -40,7 +42,8 @@ pub trait Work {
 
     /// How the command ends at a line that has more octets than a line may have.
     fn too_long(&self) -> Status
-        ensures { (lines : List (List ℕ)) (octets : List ℕ) → took self.now lines → (task self.now).longest < length octets
+        ensures { (lines : List (List ℕ)) (octets : List ℕ) → took self.now lines
+            → (task self.now).longest < length octets
             → IsBad (task self.now) result (lines ++ octets ∷ []) };
 
     /// A bad line prints nothing, and what follows it changes nothing.
@@ -78,7 +81,8 @@ fn fault_status<W: Work>(work: &W, fault: RawFault) -> Status
 fn finish<W: Work, K: Sink>(alloc: Global, work: &mut W, line: &[u8], output: &mut K) -> Status
     requires { (lines : List (List ℕ)) × W.took work.old lines }
     ensures finishes { (lines : List (List ℕ)) → W.took work.old lines
-        → Finishes (W.task work.old) result lines line.now (K.written output.old) (K.written output.new) }
+        → Finishes (W.task work.old) result lines line.now (K.written output.old)
+        (K.written output.new) }
     ensures known { IsLinesEnd result }
     ensures fault { result ≡ Status.WriteFault → Rose (K.faults output.old) (K.faults output.new) }
     ensures faults_stay { K.faults output.old ≤ K.faults output.new }
@@ -102,10 +106,12 @@ pub fn take_lines<W: Work, S: Source, K: Sink>(
     requires untaken { (lines.old.held.octets ≡ []) × (lines.old.held.passed ≡ 0) }
     requires limit { lines.old.longest ≡ (W.task work.old).longest }
     ensures same { W.task work.new ≡ W.task work.old }
-    ensures takes { TakesLines (W.task work.old) (λ taken. W.took work.new taken) result (S.left input.old) (S.left input.new) lines.new.line
+    ensures takes { TakesLines (W.task work.old) (λ taken. W.took work.new taken) result
+        (S.left input.old) (S.left input.new) lines.new.line
         (K.written output.old) (K.written output.new) }
     ensures known { IfErr result IsLinesEnd }
-    ensures counts { TakesCounts result (S.ends input.old) (S.ends input.new) (S.faults input.old) (S.faults input.new)
+    ensures counts { TakesCounts result (S.ends input.old) (S.ends input.new) (S.faults input.old)
+        (S.faults input.new)
         (K.faults output.old) (K.faults output.new) }
     ensures faults_stay { K.faults output.old ≤ K.faults output.new }
 {
@@ -134,8 +140,10 @@ pub fn run<W: Work, S: Source, K: Sink>(
     ensures begun { result ≢ Status.Usage }
     ensures known { IsLinesEnd result }
     ensures ends { (X : List ℕ) → S.left input.old ≡ Some X
-        → EndsBy (W.task work.old) result X (S.left input.new) (K.written output.old) (K.written output.new) }
-    ensures counts { EndsCounts result (S.ends input.old) (S.ends input.new) (S.faults input.old) (S.faults input.new)
+        → EndsBy (W.task work.old) result X (S.left input.new) (K.written output.old)
+        (K.written output.new) }
+    ensures counts { EndsCounts result (S.ends input.old) (S.ends input.new) (S.faults input.old)
+        (S.faults input.new)
         (K.faults output.old) (K.faults output.new) }
 {
     work.is_task();

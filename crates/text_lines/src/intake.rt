@@ -93,7 +93,8 @@ impl Intake {
         ensures refills { Refills result (S.left source.old) (S.left source.new) self.old self.new }
         ensures within { self.new.passed + length self.new.octets ≤ most_octets }
         ensures counts_ends { Counts (result ≡ Ok false) (S.ends source.old) (S.ends source.new) }
-        ensures counts_faults { Counts (result ≡ Err Read) (S.faults source.old) (S.faults source.new) }
+        ensures counts_faults { Counts (result ≡ Err Read) (S.faults source.old)
+            (S.faults source.new) }
     {
         let room = self.room();
         self.start = 0;
@@ -115,9 +116,11 @@ impl Intake {
 fn read_front<S: Source>(source: &mut S, chunk: &mut [u8], room: usize) -> Option<usize>
     requires some { 0 < room }
     requires inside { room ≤ length chunk.old }
-    ensures reads { IfSome result (λ n. (n ≤ room) × Consumes (S.left source.old) (S.left source.new) (take n chunk.new)) }
+    ensures reads { IfSome result
+        (λ n. (n ≤ room) × Consumes (S.left source.old) (S.left source.new) (take n chunk.new)) }
     ensures fails { IfNone result (S.left source.new ≡ S.left source.old) }
-    ensures end { result ≡ Some 0 → IsAtEnd (S.left source.old) × (S.left source.new ≡ S.left source.old) }
+    ensures end { result ≡ Some 0
+        → IsAtEnd (S.left source.old) × (S.left source.new ≡ S.left source.old) }
     ensures counts_ends { Counts (result ≡ Some 0) (S.ends source.old) (S.ends source.new) }
     ensures counts_faults { Counts (result ≡ None) (S.faults source.old) (S.faults source.new) }
 {

@@ -99,7 +99,8 @@ impl Model for RawLines {
 impl RawLines {
     /// Nothing is taken yet, and no line may have more octets than this.
     pub fn new(alloc: Global, longest: usize) -> Result<RawLines, NoMemory>
-        ensures { IfOk result (λ r. (r.held.octets ≡ []) × (r.held.passed ≡ 0) × (r.longest ≡ longest)) }
+        ensures { IfOk result
+            (λ r. (r.held.octets ≡ []) × (r.held.passed ≡ 0) × (r.longest ≡ longest)) }
     {
         Ok(RawLines {
             intake: Intake::new(alloc)?,
@@ -135,15 +136,18 @@ impl RawLines {
 
     /// Takes the next line of the source.
     pub fn next_line<S: Source>(&mut self, source: &mut S) -> Result<RawLine, RawFault>
-        ensures line { IfOk result (λ line. TakesRawLine line (rest_of self.old (S.left source.old)) (rest_of self.new (S.left source.new)) self.old self.new) }
+        ensures line { IfOk result (λ line. TakesRawLine line (rest_of self.old (S.left source.old))
+            (rest_of self.new (S.left source.new)) self.old self.new) }
         ensures unended { IfOk result (λ line. IsUnended self.new.line) }
         ensures short { OnOk result (length self.new.line ≤ self.old.longest) }
         ensures limit { self.new.longest ≡ self.old.longest }
         ensures within { self.new.held.passed + length self.new.held.octets ≤ most_octets }
         ensures grows { self.old.held.passed ≤ self.new.held.passed }
-        ensures fault { IfErr result (λ fault. TakesNone fault (rest_of self.old (S.left source.old)) (S.left source.new) self.old self.new) }
+        ensures fault { IfErr result (λ fault. TakesNone fault
+            (rest_of self.old (S.left source.old)) (S.left source.new) self.old self.new) }
         ensures counts_ends { Counts (SourceEnded result) (S.ends source.old) (S.ends source.new) }
-        ensures counts_faults { Counts (result ≡ Err Read) (S.faults source.old) (S.faults source.new) }
+        ensures counts_faults { Counts (result ≡ Err Read) (S.faults source.old)
+            (S.faults source.new) }
     {
         self.line.clear();
         loop {

@@ -29,12 +29,15 @@ pub fn run_text<S: Source, K: Sink>(
     requires { IsSized command }
     ensures begun { result ≢ Status.Usage }
     ensures unread { text_reads command ≡ false → input.new ≡ input.old }
-    ensures ends { EndsAs command result (S.left input.old) (S.left input.new) (K.written output.old) (K.written output.new) }
+    ensures ends { EndsAs command result (S.left input.old) (S.left input.new)
+        (K.written output.old) (K.written output.new) }
     ensures known { IsEndAs command result }
-    ensures counts { CountsAs command result (S.ends input.old) (S.ends input.new) (S.faults input.old) (S.faults input.new)
+    ensures counts { CountsAs command result (S.ends input.old) (S.ends input.new)
+        (S.faults input.old) (S.faults input.new)
         (K.faults output.old) (K.faults output.new) }
     ensures complete { (X : List ℕ) → S.left input.old ≡ Some X → IsSound command X
-        → ¬ Rose (S.faults input.old) (S.faults input.new) → ¬ Rose (K.faults output.old) (K.faults output.new)
+        → ¬ Rose (S.faults input.old) (S.faults input.new)
+        → ¬ Rose (K.faults output.old) (K.faults output.new)
         → (result ≡ Status.Done) ⊎ (result ≡ Status.OutOfMemory) }
 {
     match command {

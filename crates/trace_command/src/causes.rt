@@ -45,7 +45,8 @@ fn push_unknown(
     code: u32,
     vendor: Option<u32>,
 ) -> Result<(), NoMemory>
-    ensures { OnOk result (text.new.items ≡ text.old.items ++ specs.details (causes.UnknownAvp code vendor)) }
+    ensures { OnOk result
+        (text.new.items ≡ text.old.items ++ specs.details (causes.UnknownAvp code vendor)) }
 {
     let Some(vendor) = vendor else {
         return push_number(alloc, text, code);
@@ -57,7 +58,8 @@ fn push_unknown(
 
 /// Appends which AVP has a value that can't be an attribute's.
 fn push_bad_value(alloc: Global, text: &mut Vec<u8>, code: u32) -> Result<(), NoMemory>
-    ensures { OnOk result (text.new.items ≡ text.old.items ++ specs.details (causes.BadValue code)) }
+    ensures { OnOk result
+        (text.new.items ≡ text.old.items ++ specs.details (causes.BadValue code)) }
 {
     match find_avp(code) {
         None => push_number(alloc, text, code),

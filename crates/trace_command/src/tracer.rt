@@ -27,7 +27,8 @@ fn push_outputs(
     number: u64,
     outputs: &[Output],
 ) -> Result<(), NoMemory>
-    ensures { OnOk result (text.new.items ≡ text.old.items ++ flat_map (output_lines number) outputs.now) }
+    ensures { OnOk result
+        (text.new.items ≡ text.old.items ++ flat_map (output_lines number) outputs.now) }
 {
     for output in outputs {
         push_output(alloc, text, number, output)?;
@@ -44,7 +45,8 @@ fn traced(
     outputs: &[Output],
     cause: Option<Cause>,
 ) -> Result<Vec<u8>, NoMemory>
-    ensures { IfOk result (λ text. text.items ≡ event_lines number moment input.now ++ flat_map (output_lines number) outputs.now ++ because number cause) }
+    ensures { IfOk result (λ text. text.items ≡ event_lines number moment input.now
+        ++ flat_map (output_lines number) outputs.now ++ because number cause) }
 {
     let mut text = Vec::new(alloc);
     push_event(alloc, &mut text, number, moment, input)?;

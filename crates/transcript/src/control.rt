@@ -27,7 +27,8 @@ fn control_by(
     port: &[u8],
     hex: &[u8],
 ) -> Result<Control, WordFault>
-    ensures { Reads result (lines.control_of (moment.now ∷ [] ∷ address.now ∷ port.now ∷ hex.now ∷ [])) }
+    ensures { Reads result
+        (lines.control_of (moment.now ∷ [] ∷ address.now ∷ port.now ∷ hex.now ∷ [])) }
 {
     Ok(Control {
         moment: read_number(moment, u64::MAX)?,

@@ -33,8 +33,10 @@ impl<'a, S: Source> Lines<'a, S> {
         source: &'a mut S,
         reader: LineReader,
     ) -> Result<Lines<'a, S>, NoMemory>
-        ensures { IfOk result (λ lines. (lines.source.ghost_name ≡ source.entry.ghost_name) × (lines.source.now ≡ source.old)
-            × (lines.raw.held.octets ≡ []) × (lines.raw.held.passed ≡ 0) × (lines.raw.longest ≡ 140000) × (lines.reader ≡ reader) × (lines.is_ended ≡ false)) }
+        ensures { IfOk result (λ lines. (lines.source.ghost_name ≡ source.entry.ghost_name)
+            × (lines.source.now ≡ source.old)
+            × (lines.raw.held.octets ≡ []) × (lines.raw.held.passed ≡ 0)
+            × (lines.raw.longest ≡ 140000) × (lines.reader ≡ reader) × (lines.is_ended ≡ false)) }
     {
         Ok(Lines {
             source,
@@ -46,16 +48,20 @@ impl<'a, S: Source> Lines<'a, S> {
 
     /// The lines of this source, of which nothing is taken yet.
     pub fn new(alloc: Global, source: &'a mut S) -> Result<Lines<'a, S>, NoMemory>
-        ensures { IfOk result (λ lines. (lines.source.ghost_name ≡ source.entry.ghost_name) × (lines.source.now ≡ source.old)
-            × (lines.raw.held.octets ≡ []) × (lines.raw.held.passed ≡ 0) × (lines.raw.longest ≡ 140000) × IsReading lines.reader start × (lines.is_ended ≡ false)) }
+        ensures { IfOk result (λ lines. (lines.source.ghost_name ≡ source.entry.ghost_name)
+            × (lines.source.now ≡ source.old)
+            × (lines.raw.held.octets ≡ []) × (lines.raw.held.passed ≡ 0) × (lines.raw.longest
+            ≡ 140000) × IsReading lines.reader start × (lines.is_ended ≡ false)) }
     {
         Lines::read_by(alloc, source, LineReader::new(alloc)?)
     }
 
     /// The same, and control lines may stand among them.
     pub fn with_control(alloc: Global, source: &'a mut S) -> Result<Lines<'a, S>, NoMemory>
-        ensures { IfOk result (λ lines. (lines.source.ghost_name ≡ source.entry.ghost_name) × (lines.source.now ≡ source.old)
-            × (lines.raw.held.octets ≡ []) × (lines.raw.held.passed ≡ 0) × (lines.raw.longest ≡ 140000) × IsReading lines.reader start_with_control
+        ensures { IfOk result (λ lines. (lines.source.ghost_name ≡ source.entry.ghost_name)
+            × (lines.source.now ≡ source.old)
+            × (lines.raw.held.octets ≡ []) × (lines.raw.held.passed ≡ 0)
+            × (lines.raw.longest ≡ 140000) × IsReading lines.reader start_with_control
             × (lines.is_ended ≡ false)) }
     {
         Lines::read_by(alloc, source, LineReader::with_control(alloc)?)
@@ -78,18 +84,26 @@ impl<'a, S: Source> Lines<'a, S> {
     pub fn next_line(&mut self) -> Result<Option<Line>, LineFault>
         ensures same_source { self.new.source.ghost_name ≡ self.old.source.ghost_name }
         ensures limit { self.new.raw.longest ≡ self.old.raw.longest }
-        ensures answers { (at : At) → IsReading self.old.reader at → self.old.is_ended ≡ false → self.old.raw.longest ≡ 140000
-            → ReadsNext result at (rest_of self.old.raw (S.left self.old.source.now)) (rest_of self.new.raw (S.left self.new.source.now))
-            (S.left self.new.source.now) self.old.raw self.new.raw self.new.reader self.new.is_ended }
+        ensures answers { (at : At) → IsReading self.old.reader at → self.old.is_ended ≡ false
+            → self.old.raw.longest ≡ 140000
+            → ReadsNext result at (rest_of self.old.raw (S.left self.old.source.now))
+            (rest_of self.new.raw (S.left self.new.source.now))
+            (S.left self.new.source.now) self.old.raw self.new.raw self.new.reader
+            self.new.is_ended }
         ensures refused { IfErr result (λ fault. self.new.reader.refused ≡ Some fault) }
         ensures over { (fault : LineFault) → self.old.reader.refused ≡ Some fault
-            → (result ≡ Err fault) × (self.new.source.now ≡ self.old.source.now) × (self.new.reader.refused ≡ Some fault) }
+            → (result ≡ Err fault) × (self.new.source.now ≡ self.old.source.now)
+            × (self.new.reader.refused ≡ Some fault) }
         ensures ended { self.old.reader.refused ≡ None → self.old.is_ended ≡ true
-            → (result ≡ Ok None) × (self.new.source.now ≡ self.old.source.now) × (self.new.is_ended ≡ true) }
+            → (result ≡ Ok None) × (self.new.source.now ≡ self.old.source.now)
+            × (self.new.is_ended ≡ true) }
         ensures counts_ends { (at : At) → IsReading self.old.reader at → self.old.is_ended ≡ false
-            → Counts (self.new.is_ended ≡ true) (S.ends self.old.source.now) (S.ends self.new.source.now) }
-        ensures counts_faults { (at : At) → IsReading self.old.reader at → self.old.is_ended ≡ false → self.old.raw.longest ≡ 140000
-            → Counts (result ≡ Err Read) (S.faults self.old.source.now) (S.faults self.new.source.now) }
+            → Counts (self.new.is_ended ≡ true) (S.ends self.old.source.now)
+            (S.ends self.new.source.now) }
+        ensures counts_faults { (at : At) → IsReading self.old.reader at → self.old.is_ended ≡ false
+            → self.old.raw.longest ≡ 140000
+            → Counts (result ≡ Err Read) (S.faults self.old.source.now)
+            (S.faults self.new.source.now) }
     {
         if let Some(fault) = self.reader.refused() {
             return Err(fault);

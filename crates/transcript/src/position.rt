@@ -102,7 +102,8 @@ impl Position {
     }
 
     fn may_stand(&self, kind: Kind) -> bool
-        ensures { result ≡ reading.may_stand self.now.controls self.now.section (length self.now.addresses.items) kind }
+        ensures { result ≡ reading.may_stand self.now.controls self.now.section
+            (length self.now.addresses.items) kind }
     {
         match self.section {
             Section::Start => matches!(kind, Kind::Agent),
@@ -122,7 +123,8 @@ impl Position {
 
     fn take_agent(&mut self, alloc: Global, words: &[&[u8]]) -> Result<Line, LineFault>
         ensures { (at : At) → StandsAt self.old at
-            → TakesStep result at (reading.agent_step at (lines.settings_of (plain words.now))) self.new }
+            → TakesStep result at (reading.agent_step at (lines.settings_of (plain words.now)))
+            self.new }
     {
         let number = self.number();
         match read_settings(alloc, words) {
@@ -137,7 +139,8 @@ impl Position {
 
     fn take_client(&mut self, alloc: Global, words: &[&[u8]]) -> Result<Line, LineFault>
         ensures { (at : At) → StandsAt self.old at
-            → TakesStep result at (reading.client_step at (lines.client_of (plain words.now))) self.new }
+            → TakesStep result at (reading.client_step at (lines.client_of (plain words.now)))
+            self.new }
     {
         let number = self.number();
         match read_client(alloc, words) {
@@ -155,7 +158,8 @@ impl Position {
 
     /// The inputs of an event line: one, but for the octets of the link.
     fn inputs(&mut self, alloc: Global, happening: Happening) -> Result<Inputs, NoMemory>
-        ensures { (at : At) → StandsAt self.old at → TellsInputs result at happening self.old self.new }
+        ensures { (at : At) → StandsAt self.old at
+            → TellsInputs result at happening self.old self.new }
     {
         match happening {
             Happening::Link(octets) => self.link.take(alloc, octets.as_slice()),
@@ -175,7 +179,8 @@ impl Position {
         words: &[&[u8]],
     ) -> Result<Line, LineFault>
         ensures { (at : At) → StandsAt self.old at
-            → TakesStep result at (reading.event_step at (lines.event_of name (plain words.now))) self.new }
+            → TakesStep result at (reading.event_step at (lines.event_of name (plain words.now)))
+            self.new }
     {
         let number = self.number();
         match read_event(alloc, name, words) {
@@ -195,7 +200,8 @@ impl Position {
 
     fn take_control(&mut self, alloc: Global, words: &[&[u8]]) -> Result<Line, LineFault>
         ensures { (at : At) → StandsAt self.old at
-            → TakesStep result at (reading.control_step at (lines.control_of (plain words.now))) self.new }
+            → TakesStep result at (reading.control_step at (lines.control_of (plain words.now)))
+            self.new }
     {
         let number = self.number();
         match read_control(alloc, words) {
@@ -235,7 +241,8 @@ impl Position {
     /// What the next line says, which has these words.
     fn take_words(&mut self, alloc: Global, words: &[&[u8]]) -> Result<Line, LineFault>
         ensures { (at : At) → StandsAt self.old at
-            → TakesStep result at (reading.words_step at (kind_of_words (plain words.now)) (plain words.now)) self.new }
+            → TakesStep result at
+            (reading.words_step at (kind_of_words (plain words.now)) (plain words.now)) self.new }
     {
         match kind_of(words) {
             Some(kind) => {
@@ -251,7 +258,8 @@ impl Position {
 
     /// What the next line says, which has these octets. After an `Err` this is no position any more.
     pub(crate) fn take(&mut self, alloc: Global, line: &[u8]) -> Result<Line, LineFault>
-        ensures { (at : At) → StandsAt self.old at → TakesStep result at (reading.read_line at line.now) self.new }
+        ensures { (at : At) → StandsAt self.old at
+            → TakesStep result at (reading.read_line at line.now) self.new }
     {
         if LONGEST_LINE < line.len() {
             return Err(self.bad(1));

@@ -47,9 +47,11 @@ impl LineReader {
 
     /// Reads the next line, given without the octet 0a that ends it. After a refusal it answers the same from then on.
     pub fn take(&mut self, line: &[u8]) -> Result<Line, LineFault>
-        ensures takes { (at : At) → IsReading self.old at → TakesLine result at (read_line at line.now) self.new }
+        ensures takes { (at : At) → IsReading self.old at
+            → TakesLine result at (read_line at line.now) self.new }
         ensures refused { IfErr result (λ fault. self.new.refused ≡ Some fault) }
-        ensures over { (fault : LineFault) → self.old.refused ≡ Some fault → (result ≡ Err fault) × (self.new ≡ self.old) }
+        ensures over { (fault : LineFault) → self.old.refused ≡ Some fault
+            → (result ≡ Err fault) × (self.new ≡ self.old) }
     {
         if let Some(fault) = self.refused {
             return Err(fault);
@@ -62,7 +64,8 @@ impl LineReader {
 
     /// The same as an answer that may be that there is no line.
     pub(crate) fn take_some(&mut self, line: &[u8]) -> Result<Option<Line>, LineFault>
-        ensures takes { (at : At) → IsReading self.old at → TakesSome result at (read_line at line.now) self.new }
+        ensures takes { (at : At) → IsReading self.old at
+            → TakesSome result at (read_line at line.now) self.new }
         ensures refused { IfErr result (λ fault. self.new.refused ≡ Some fault) }
     {
         match self.take(line) {

@@ -83,7 +83,8 @@ fn first_word<'a>(words: &[&'a [u8]]) -> Option<&'a [u8]>
 }
 
 fn agent_words<'a>(words: &[&'a [u8]]) -> Option<AgentWords<'a>>
-    ensures some { IfSome result (λ found. lines.settings_of (plain words.now) ≡ settings_told found) }
+    ensures some { IfSome result
+        (λ found. lines.settings_of (plain words.now) ≡ settings_told found) }
     ensures none { IfNone result (lines.settings_of (plain words.now) ≡ None) }
 {
     let [

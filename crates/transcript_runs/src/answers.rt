@@ -33,8 +33,10 @@ fn message_answered(
     moment: u64,
     octets: &[u8],
 ) -> Result<Option<HomeAnswer>, NoMemory>
-    ensures { (H : List Event) → StandsFor core.now H → IfOk result (λ answered. answered ≡ specs.answered_at (inputs.Message octets.now)
-        (place core.now.config (past core.now.config H) (record { moment = moment; input = inputs.Message octets.now })).matched) }
+    ensures { (H : List Event) → StandsFor core.now H
+        → IfOk result (λ answered. answered ≡ specs.answered_at (inputs.Message octets.now)
+        (place core.now.config (past core.now.config H)
+        (record { moment = moment; input = inputs.Message octets.now })).matched) }
 {
     let Ok(message) = parse(octets) else {
         return Ok(None);
@@ -61,8 +63,10 @@ pub fn answered(
     moment: u64,
     input: &Input,
 ) -> Result<Option<HomeAnswer>, NoMemory>
-    ensures { (H : List Event) → StandsFor core.now H → IfOk result (λ answered. answered ≡ specs.answered_at input.now
-        (place core.now.config (past core.now.config H) (record { moment = moment; input = input.now })).matched) }
+    ensures { (H : List Event) → StandsFor core.now H
+        → IfOk result (λ answered. answered ≡ specs.answered_at input.now
+        (place core.now.config (past core.now.config H)
+        (record { moment = moment; input = input.now })).matched) }
 {
     match input {
         Input::Message { octets } => message_answered(alloc, core, moment, octets.as_slice()),

@@ -44,10 +44,13 @@ fn run_inputs<T: Teller, K: Sink>(
 ) -> Result<(), Status>
     ensures same { T.telling teller.new ≡ T.telling teller.old }
     ensures runs { (config : Config) (ps : List Place) → RunsAt T.told core.old teller.old config ps
-        → OnOk result (RunsAt T.told core.new teller.new config (places_after config ps moment inputs.now)
-        × Appends (K.written sink.old) (K.written sink.new) (inputs_told (T.telling teller.old).text number config ps moment inputs.now)) }
+        → OnOk result
+        (RunsAt T.told core.new teller.new config (places_after config ps moment inputs.now)
+        × Appends (K.written sink.old) (K.written sink.new)
+        (inputs_told (T.telling teller.old).text number config ps moment inputs.now)) }
     ensures part { (config : Config) (ps : List Place) → RunsAt T.told core.old teller.old config ps
-        → AppendsPrefix (K.written sink.old) (K.written sink.new) (inputs_told (T.telling teller.old).text number config ps moment inputs.now) }
+        → AppendsPrefix (K.written sink.old) (K.written sink.new)
+        (inputs_told (T.telling teller.old).text number config ps moment inputs.now) }
     ensures fault { result ≡ Err Status.WriteFault → Rose (K.faults sink.old) (K.faults sink.new) }
     ensures failure { IfErr result IsFailure }
     ensures faults_stay { K.faults sink.old ≤ K.faults sink.new }
@@ -79,7 +82,8 @@ impl<T: Teller> Session<T> {
     /// The settings that an agent line tells.
     fn settle(&mut self, config: Config)
         ensures teller { self.new.teller ≡ self.old.teller }
-        ensures settles { (stage : Stage) (number : ℕ) → IsAt T.told self.old stage → IsAt T.told self.new (stage_on stage (line.Agent number config)) }
+        ensures settles { (stage : Stage) (number : ℕ) → IsAt T.told self.old stage
+            → IsAt T.told self.new (stage_on stage (line.Agent number config)) }
     {
         if self.core.is_none() {
             self.config = Some(config);
@@ -88,7 +92,8 @@ impl<T: Teller> Session<T> {
 
     /// A further client of the settings.
     fn join(&mut self, client: Client) -> Result<(), Status>
-        requires { IfSome self.old.config (λ config. find_address client.address config.clients ≡ None) }
+        requires { IfSome self.old.config
+            (λ config. find_address client.address config.clients ≡ None) }
         ensures teller { self.new.teller ≡ self.old.teller }
         ensures joins { (stage : Stage) (number : ℕ) → IsAt T.told self.old stage
             → OnOk result (IsAt T.told self.new (stage_on stage (line.Client number client))) }
@@ -101,7 +106,8 @@ impl<T: Teller> Session<T> {
     fn begin(&mut self, alloc: Global) -> Result<(), Status>
         requires { IfSome self.old.config InLimits }
         ensures teller { self.new.teller ≡ self.old.teller }
-        ensures begins { (stage : Stage) → IsAt T.told self.old stage → OnOk result (IsAt T.told self.new (begun stage)) }
+        ensures begins { (stage : Stage) → IsAt T.told self.old stage
+            → OnOk result (IsAt T.told self.new (begun stage)) }
         ensures memory { IfErr result (λ status. status ≡ Status.OutOfMemory) }
     {
         match self.config.take() {
@@ -127,10 +133,13 @@ impl<T: Teller> Session<T> {
     ) -> Result<(), Status>
         ensures same { T.telling self.new.teller ≡ T.telling self.old.teller }
         ensures runs { (stage : Stage) → IsAt T.told self.old (begun stage)
-            → OnOk result (Follows T.told (T.telling self.old.teller) self.new stage (line.Event number moment inputs.now) (K.written sink.old) (K.written sink.new)) }
+            → OnOk result (Follows T.told (T.telling self.old.teller) self.new stage
+            (line.Event number moment inputs.now) (K.written sink.old) (K.written sink.new)) }
         ensures part { (stage : Stage) → IsAt T.told self.old (begun stage)
-            → AppendsPrefix (K.written sink.old) (K.written sink.new) (line_told (T.telling self.old.teller).text stage (line.Event number moment inputs.now)) }
-        ensures fault { result ≡ Err Status.WriteFault → Rose (K.faults sink.old) (K.faults sink.new) }
+            → AppendsPrefix (K.written sink.old) (K.written sink.new) (line_told
+            (T.telling self.old.teller).text stage (line.Event number moment inputs.now)) }
+        ensures fault { result ≡ Err Status.WriteFault
+            → Rose (K.faults sink.old) (K.faults sink.new) }
         ensures failure { IfErr result IsFailure }
         ensures faults_stay { K.faults sink.old ≤ K.faults sink.new }
     {
@@ -150,10 +159,13 @@ impl<T: Teller> Session<T> {
         requires { (stage : Stage) × IsAt T.told self.old stage × CanFollow (told_of stage) line }
         ensures same { T.telling self.new.teller ≡ T.telling self.old.teller }
         ensures follows { (stage : Stage) → IsAt T.told self.old stage
-            → OnOk result (Follows T.told (T.telling self.old.teller) self.new stage line (K.written sink.old) (K.written sink.new)) }
+            → OnOk result (Follows T.told (T.telling self.old.teller) self.new stage line
+            (K.written sink.old) (K.written sink.new)) }
         ensures part { (stage : Stage) → IsAt T.told self.old stage
-            → AppendsPrefix (K.written sink.old) (K.written sink.new) (line_told (T.telling self.old.teller).text stage line) }
-        ensures fault { result ≡ Err Status.WriteFault → Rose (K.faults sink.old) (K.faults sink.new) }
+            → AppendsPrefix (K.written sink.old) (K.written sink.new)
+            (line_told (T.telling self.old.teller).text stage line) }
+        ensures fault { result ≡ Err Status.WriteFault
+            → Rose (K.faults sink.old) (K.faults sink.new) }
         ensures failure { IfErr result IsFailure }
         ensures faults_stay { K.faults sink.old ≤ K.faults sink.new }
     {

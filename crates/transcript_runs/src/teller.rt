@@ -36,17 +36,21 @@ pub trait Teller {
     ) -> Result<(), Status>
         ensures same { telling self.new ≡ telling self.old }
         ensures runs { (config : Config) (ps : List Place) → RunsAt told core.old self.old config ps
-            → OnOk result (RunsOn told (telling self.old) core.new self.new config ps number (event_at moment input.now) (K.written sink.old) (K.written sink.new)) }
+            → OnOk result (RunsOn told (telling self.old) core.new self.new config ps number
+            (event_at moment input.now) (K.written sink.old) (K.written sink.new)) }
         ensures part { (config : Config) (ps : List Place) → RunsAt told core.old self.old config ps
-            → AppendsPrefix (K.written sink.old) (K.written sink.new) ((telling self.old).text number config ps (event_at moment input.now)) }
-        ensures fault { result ≡ Err Status.WriteFault → Rose (K.faults sink.old) (K.faults sink.new) }
+            → AppendsPrefix (K.written sink.old) (K.written sink.new)
+            ((telling self.old).text number config ps (event_at moment input.now)) }
+        ensures fault { result ≡ Err Status.WriteFault
+            → Rose (K.faults sink.old) (K.faults sink.new) }
         ensures failure { IfErr result IsFailure }
         ensures faults_stay { K.faults sink.old ≤ K.faults sink.new };
 
     /// Tells what stands behind all inputs, which made this of the core, where an event came.
     fn close<K: Sink>(&self, alloc: Global, core: Option<&Core>, sink: &mut K) -> Status
         ensures closes { (stage : Stage) → IsTold told (option_copied core.entry) self.now stage
-            → ClosesWith result ((telling self.now).end stage) (K.written sink.old) (K.written sink.new) }
+            → ClosesWith result ((telling self.now).end stage) (K.written sink.old)
+            (K.written sink.new) }
         ensures fault { result ≡ Status.WriteFault → Rose (K.faults sink.old) (K.faults sink.new) }
         ensures faults_stay { K.faults sink.old ≤ K.faults sink.new };
 }

@@ -26,7 +26,8 @@ fn is_acceptance(kept: &Kept, header: &Header, list: &[Avp<'_>]) -> bool
 /// Whether an answer without flag E, for this session and without an unknown AVP that must be understood, has a
 /// Result-Code of success.
 pub fn is_accepted(alloc: Global, kept: &Kept, message: &Message<'_>) -> Result<bool, NoMemory>
-    ensures { IfOk result (λ accepted. accepted ≡ specs.is_accepted kept.now (message_view message.now)) }
+    ensures { IfOk result
+        (λ accepted. accepted ≡ specs.is_accepted kept.now (message_view message.now)) }
 {
     match read(alloc, message.avps)? {
         Some(list) => Ok(is_acceptance(kept, &message.header, list.as_slice())),

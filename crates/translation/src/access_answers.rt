@@ -86,7 +86,8 @@ fn first_class(
     header: &Header,
     list: &[Avp<'_>],
 ) -> Class
-    ensures { result ≡ attempts.first_class service client.now kept.now header.now (list_view list.now) }
+    ensures { result
+        ≡ attempts.first_class service client.now kept.now header.now (list_view list.now) }
 {
     if is_error(header) {
         Class::Refusal
@@ -106,8 +107,10 @@ fn sound_reply(
 ) -> Result<Option<Octets>, NoMemory>
     requires session { length kept.now.session ≤ 244 }
     requires whole { kept.now.proxy ≡ attributes_text (attributes_in kept.now.proxy) }
-    ensures { let avps = list_view list.now in let class = specs.class_of service client.now kept.now header.now avps in
-        IfOk result (λ o. o ≡ attempts.unless_bad class (replies.access_reply service class client.now kept.now avps)) }
+    ensures { let avps = list_view list.now in let class = specs.class_of service client.now
+        kept.now header.now avps in
+        IfOk result (λ o. o
+        ≡ attempts.unless_bad class (replies.access_reply service class client.now kept.now avps)) }
 {
     let strict = !is_error(header);
     match first_class(service, client, kept, header, list) {
@@ -137,7 +140,8 @@ fn bad_follow(
     requires client { ClientInLimits client.now }
     requires realm { length kept.now.realm ≤ 255 }
     requires session { length kept.now.session ≤ 1024 }
-    ensures { IfOk result (λ o. o ≡ specs.bad_follow service client.now kept.now (list_view list.now) numbers) }
+    ensures { IfOk result
+        (λ o. o ≡ specs.bad_follow service client.now kept.now (list_view list.now) numbers) }
 {
     if !is_success(result_code(list)) {
         return Ok(None);
@@ -161,7 +165,8 @@ fn bad_outcome(
     requires session { length kept.now.session ≤ 1024 }
     requires whole { kept.now.proxy ≡ attributes_text (attributes_in kept.now.proxy) }
     requires proxy { length kept.now.proxy ≤ 2048 }
-    ensures { IfOk result (λ o. o ≡ specs.outcome_of Bad service client.now kept.now (list_view list.now) numbers) }
+    ensures { IfOk result
+        (λ o. o ≡ specs.outcome_of Bad service client.now kept.now (list_view list.now) numbers) }
 {
     let reply = bare_reply(alloc, client, kept, ACCESS_REJECT, true)?;
     let follow = bad_follow(alloc, service, client, kept, list, numbers)?;
@@ -186,7 +191,8 @@ pub fn answer(
     requires session { length kept.now.session ≤ 244 }
     requires whole { kept.now.proxy ≡ attributes_text (attributes_in kept.now.proxy) }
     requires proxy { length kept.now.proxy ≤ 2048 }
-    ensures { IfOk result (λ o. o ≡ specs.outcome service client.now kept.now (message_view message.now) numbers) }
+    ensures { IfOk result
+        (λ o. o ≡ specs.outcome service client.now kept.now (message_view message.now) numbers) }
 {
     let Some(list) = read(alloc, message.avps)? else {
         return bad_outcome(alloc, service, client, kept, &[], numbers);

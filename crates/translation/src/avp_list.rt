@@ -17,7 +17,8 @@ const FIRST_ROOM: usize = 16;
 
 /// The AVPs in order. None where they can't be read.
 pub fn read<'a>(alloc: Global, octets: &'a [u8]) -> Result<Option<Vec<Avp<'a>>>, NoMemory>
-    ensures { IfOk result (λ found. option_map (λ list. list_view list.items) found ≡ result_ok (read_avps octets.now)) }
+    ensures { IfOk result (λ found. option_map (λ list. list_view list.items) found
+        ≡ result_ok (read_avps octets.now)) }
 {
     let mut list = Vec::with_capacity(alloc, FIRST_ROOM)?;
     for item in avps(octets) {

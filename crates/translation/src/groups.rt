@@ -15,8 +15,10 @@ use wire_core::NoMemory;
 
 /// Puts the group of a tag, which has room.
 fn put_group(writer: &mut MessageWriter, packet: &Packet<'_>, tag: u8) -> Result<(), NoMemory>
-    requires { length (avps_text (writer.old.avps.list ++ group tag packet.now.attributes ∷ [])) ≤ 65516 }
-    ensures { OnOk result (writer.new ≡ with_avps writer.old (group tag packet.now.attributes ∷ [])) }
+    requires { length (avps_text (writer.old.avps.list ++ group tag packet.now.attributes ∷ []))
+        ≤ 65516 }
+    ensures { OnOk result
+        (writer.new ≡ with_avps writer.old (group tag packet.now.attributes ∷ [])) }
 {
     match write_group(packet, tag, writer.avps()) {
         Ok(()) => Ok(()),
@@ -33,8 +35,10 @@ pub(crate) fn put_unseen_group(
     tags: &mut [bool; 32],
 ) -> Result<(), NoMemory>
     requires small { tag < 32 }
-    requires room { length (avps_text (writer.old.avps.list ++ passing.group_after packet.now.attributes tags.old tag)) ≤ 65516 }
-    ensures put { OnOk result (writer.new ≡ with_avps writer.old (passing.group_after packet.now.attributes tags.old tag)) }
+    requires room { length (avps_text
+        (writer.old.avps.list ++ passing.group_after packet.now.attributes tags.old tag)) ≤ 65516 }
+    ensures put { OnOk result (writer.new
+        ≡ with_avps writer.old (passing.group_after packet.now.attributes tags.old tag)) }
     ensures noted { OnOk result (tags.new ≡ slice_set tags.old tag true) }
 {
     let place = usize::from(tag);

@@ -38,7 +38,8 @@ fn put_auth_names(
     requires realm { length (route_view route.now).realm ≤ 255 }
     requires origin_host { length client.now.origin_host ≤ 64 }
     requires origin_realm { length client.now.origin_realm ≤ 64 }
-    ensures { OnOk result (Puts writer.old writer.new (specs.auth_names application client.now (route_view route.now)) 900) }
+    ensures { OnOk result (Puts writer.old writer.new
+        (specs.auth_names application client.now (route_view route.now)) 900) }
 {
     writer.put_plain(SESSION_ID, route.session)?;
     writer.put_number(AUTH_APPLICATION_ID, application)?;
@@ -87,7 +88,8 @@ pub fn put_auth_head(
     requires realm { length (route_view route.now).realm ≤ 255 }
     requires host { IfSome (route_view route.now).host (λ host. length host ≤ 255) }
     requires client { ClientInLimits client.now }
-    ensures { OnOk result (Puts writer.old writer.new (specs.auth_head application client.now packet.now (route_view route.now)) 1500) }
+    ensures { OnOk result (Puts writer.old writer.new
+        (specs.auth_head application client.now packet.now (route_view route.now)) 1500) }
 {
     put_auth_names(writer, application, client, route)?;
     put_host(writer, route.host)?;

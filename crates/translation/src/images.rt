@@ -48,8 +48,10 @@ fn put_carrier(
     carries: bool,
     before: &mut bool,
 ) -> Result<(), NoMemory>
-    requires { length (avps_text (writer.old.avps.list ++ passing.carrier_after before.old carries (attribute_view attribute.now))) ≤ 65516 }
-    ensures put { OnOk result (writer.new ≡ with_avps writer.old (passing.carrier_after before.old carries (attribute_view attribute.now))) }
+    requires { length (avps_text (writer.old.avps.list
+        ++ passing.carrier_after before.old carries (attribute_view attribute.now))) ≤ 65516 }
+    ensures put { OnOk result (writer.new ≡ with_avps writer.old
+        (passing.carrier_after before.old carries (attribute_view attribute.now))) }
     ensures noted { OnOk result (before.new ≡ (before.old || carries)) }
 {
     if carries && !*before {
@@ -61,8 +63,10 @@ fn put_carrier(
 
 /// Puts the parts of a Vendor-Specific attribute, where it has them. There is room.
 pub fn put_parts(writer: &mut MessageWriter, value: &[u8]) -> Result<(), NoMemory>
-    requires { length (avps_text (writer.old.avps.list ++ images.vendor_avps (vendor_parts value.now))) ≤ 65516 }
-    ensures { OnOk result (writer.new ≡ with_avps writer.old (images.vendor_avps (vendor_parts value.now))) }
+    requires { length
+        (avps_text (writer.old.avps.list ++ images.vendor_avps (vendor_parts value.now))) ≤ 65516 }
+    ensures { OnOk result
+        (writer.new ≡ with_avps writer.old (images.vendor_avps (vendor_parts value.now))) }
 {
     let Some(parts) = vsa(value) else {
         return Ok(());
@@ -80,8 +84,10 @@ fn put_row(
     attribute: &Attribute<'_>,
 ) -> Result<(), NoMemory>
     requires good { IsTrue (is_good direction (attribute_view attribute.now)) }
-    requires room { length (avps_text (writer.old.avps.list ++ images.row_avps direction (row_of attribute.now.code) attribute.now.value.now)) ≤ 65516 }
-    ensures { OnOk result (writer.new ≡ with_avps writer.old (images.row_avps direction (row_of attribute.now.code) attribute.now.value.now)) }
+    requires room { length (avps_text (writer.old.avps.list
+        ++ images.row_avps direction (row_of attribute.now.code) attribute.now.value.now)) ≤ 65516 }
+    ensures { OnOk result (writer.new ≡ with_avps writer.old
+        (images.row_avps direction (row_of attribute.now.code) attribute.now.value.now)) }
 {
     let Some(row) = row_of_type(attribute.code) else {
         return Ok(());
@@ -104,9 +110,12 @@ pub fn put_common(
     seen: &mut Seen,
 ) -> Result<(), NoMemory>
     requires good { IsTrue (is_good direction (attribute_view attribute.now)) }
-    requires room { length (avps_text (writer.old.avps.list ++ passing.common_after direction packet.now.attributes seen.old (attribute_view attribute.now))) ≤ 65516 }
-    ensures put { OnOk result (writer.new ≡ with_avps writer.old (passing.common_after direction packet.now.attributes seen.old (attribute_view attribute.now))) }
-    ensures noted { OnOk result (seen.new ≡ passing.noted direction seen.old (attribute_view attribute.now)) }
+    requires room { length (avps_text (writer.old.avps.list ++ passing.common_after direction
+        packet.now.attributes seen.old (attribute_view attribute.now))) ≤ 65516 }
+    ensures put { OnOk result (writer.new ≡ with_avps writer.old (passing.common_after direction
+        packet.now.attributes seen.old (attribute_view attribute.now))) }
+    ensures noted { OnOk result
+        (seen.new ≡ passing.noted direction seen.old (attribute_view attribute.now)) }
 {
     if attribute.code == carrier_code(direction) {
         let carries = carries_session(direction, attribute.value);

@@ -103,7 +103,8 @@ impl Faults {
         attribute: &Attribute<'_>,
     ) -> Faults
         requires { self.proxy + length attribute.now.value.now ≤ 4096 }
-        ensures { result ≡ faults.faults_with client.now source direction self (attribute_view attribute.now) }
+        ensures { result
+            ≡ faults.faults_with client.now source direction self (attribute_view attribute.now) }
     {
         Faults {
             foreign: self.foreign || is_foreign(client, source, attribute),

@@ -22,7 +22,8 @@ pub fn put_names(
     requires realm { length realm.now ≤ 255 }
     requires origin_host { length client.now.origin_host ≤ 64 }
     requires origin_realm { length client.now.origin_realm ≤ 64 }
-    ensures { OnOk result (Puts writer.old writer.new (specs.names client.now session.now realm.now) 1500) }
+    ensures { OnOk result
+        (Puts writer.old writer.new (specs.names client.now session.now realm.now) 1500) }
 {
     writer.put_plain(SESSION_ID, session)?;
     writer.put_origin(
@@ -36,7 +37,8 @@ pub fn put_names(
 pub(crate) fn put_host(writer: &mut MessageWriter, host: Option<&[u8]>) -> Result<(), NoMemory>
     requires few { list_length writer.old ≤ 1600 }
     requires host { IfSome (option_copied host) (λ host. length host ≤ 255) }
-    ensures { OnOk result (Puts writer.old writer.new (specs.host_avps (option_copied host.entry)) 266) }
+    ensures { OnOk result
+        (Puts writer.old writer.new (specs.host_avps (option_copied host.entry)) 266) }
 {
     match host {
         Some(host) => writer.put_plain(DESTINATION_HOST, host),

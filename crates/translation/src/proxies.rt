@@ -13,7 +13,8 @@ use wire_core::{NoMemory, Octets};
 /// Puts an attribute at the end: its type, its length with these two octets, and its value.
 fn push_attribute(octets: &mut Vec<u8>, attribute: &Attribute<'_>) -> Result<(), NoMemory>
     requires { length attribute.now.value.now ≤ 253 }
-    ensures { OnOk result (octets.new.items ≡ octets.old.items ++ attribute_text (attribute_view attribute.now)) }
+    ensures { OnOk result
+        (octets.new.items ≡ octets.old.items ++ attribute_text (attribute_view attribute.now)) }
 {
     octets.push(attribute.code)?;
     octets.push(attribute.value.len() as u8 + 2)?;

@@ -68,7 +68,8 @@ pub fn pass_over(must: bool) -> Result<(), Unfit>
 pub fn push_value(reply: &mut Reply, row: &Row, body: &[u8], must: bool) -> Result<(), Unfit>
     requires short { reply_length reply.old ≤ 4096 }
     ensures { let image = backward_image row.now body.now in
-        Pushes reply.old reply.new (is_ok result) (not (must && is_err image)) (replies.value_attributes row.now.code image) }
+        Pushes reply.old reply.new (is_ok result) (not (must && is_err image))
+        (replies.value_attributes row.now.code image) }
 {
     match backward(row, body) {
         Ok(image) => push(reply, row.code, image.octets()),
@@ -80,7 +81,8 @@ pub fn push_value(reply: &mut Reply, row: &Row, body: &[u8], must: bool) -> Resu
 fn push_row(reply: &mut Reply, class: Class, avp: &Avp<'_>, must: bool) -> Result<(), Unfit>
     requires short { reply_length reply.old ≤ 4096 }
     ensures { let row = rows.row_of_avp avp.now.code in
-        Pushes reply.old reply.new (is_ok result) (not (must && reading.is_bad_value class row avp.now.body.now))
+        Pushes reply.old reply.new (is_ok result)
+        (not (must && reading.is_bad_value class row avp.now.body.now))
         (replies.row_attributes class row avp.now.body.now) }
 {
     match row_of_avp(avp.code) {
@@ -93,7 +95,8 @@ fn push_row(reply: &mut Reply, class: Class, avp: &Avp<'_>, must: bool) -> Resul
 fn push_tagged(reply: &mut Reply, body: &[u8], number: u8, must: bool) -> Result<(), Unfit>
     requires short { reply_length reply.old ≤ 4096 }
     ensures { let fault = group_fault number body.now in
-        Pushes reply.old reply.new (is_ok result) (not (must && is_some fault)) (replies.sound_group fault number body.now) }
+        Pushes reply.old reply.new (is_ok result) (not (must && is_some fault))
+        (replies.sound_group fault number body.now) }
 {
     if check_group(body, number).is_err() {
         return pass_over(must);
@@ -123,7 +126,8 @@ fn push_tunnel(
 ) -> Result<(), Unfit>
     requires short { reply_length reply.old ≤ 4096 }
     ensures { let a = avp_view avp.now in
-        Pushes reply.old reply.new (is_ok result) (not (must && reading.is_bad_group class number a))
+        Pushes reply.old reply.new (is_ok result)
+        (not (must && reading.is_bad_group class number a))
         (replies.tunnel_attributes class number a) }
 {
     if takes_groups(class) && is_group(avp) {
@@ -147,7 +151,8 @@ pub fn takes_vendors(class: Class) -> bool
 pub fn push_fitting(reply: &mut Reply, vendor: u32, avp: &Avp<'_>) -> Result<(), Unfit>
     requires code { avp.now.code ≤ 255 }
     requires body { length avp.now.body.now ≤ 247 }
-    ensures { Pushes reply.old reply.new (is_ok result) true (attribute 26 (replies.vendor_value vendor (avp_view avp.now)) ∷ []) }
+    ensures { Pushes reply.old reply.new (is_ok result) true
+        (attribute 26 (replies.vendor_value vendor (avp_view avp.now)) ∷ []) }
 {
     let mut value = [0; MOST_VALUE];
     let end = 6 + avp.body.len();
@@ -161,7 +166,8 @@ pub fn push_fitting(reply: &mut Reply, vendor: u32, avp: &Avp<'_>) -> Result<(),
 /// Pushes the attribute of an AVP of a vendor, where this reply has such ones; keys are left out.
 fn push_vendor(reply: &mut Reply, class: Class, vendor: u32, avp: &Avp<'_>) -> Result<(), Unfit>
     requires short { reply_length reply.old ≤ 4096 }
-    ensures { Pushes reply.old reply.new (is_ok result) true (replies.vendor_attributes class vendor (avp_view avp.now)) }
+    ensures { Pushes reply.old reply.new (is_ok result) true
+        (replies.vendor_attributes class vendor (avp_view avp.now)) }
 {
     if takes_vendors(class) && !is_key_avp(avp) && fits_vendor(avp) {
         push_fitting(reply, vendor, avp)
@@ -191,7 +197,8 @@ fn push_plain(
 ) -> Result<(), Unfit>
     requires short { reply_length reply.old ≤ 4096 }
     ensures { let a = avp_view avp.now in
-        Pushes reply.old reply.new (is_ok result) (not (must && reading.is_plain_faulty class number a))
+        Pushes reply.old reply.new (is_ok result)
+        (not (must && reading.is_plain_faulty class number a))
         (replies.plain_attributes class number a) }
 {
     check_timeout(class, avp, must)?;
@@ -216,7 +223,8 @@ fn push_image(
 ) -> Result<(), Unfit>
     requires short { reply_length reply.old ≤ 4096 }
     ensures { let a = avp_view avp.now in
-        Pushes reply.old reply.new (is_ok result) (not ((strict && is_mandatory a) && reading.is_faulty class number a))
+        Pushes reply.old reply.new (is_ok result)
+        (not ((strict && is_mandatory a) && reading.is_faulty class number a))
         (replies.image class number a) }
 {
     match avp.vendor {
@@ -239,7 +247,8 @@ fn next_number(number: u8, avp: &Avp<'_>) -> u8
 fn push_images(reply: &mut Reply, class: Class, list: &[Avp<'_>], strict: bool) -> Result<(), Unfit>
     requires short { reply_length reply.old ≤ 4096 }
     ensures { let avps = list_view list.now in
-        Pushes reply.old reply.new (is_ok result) (not (strict && reading.has_fault class avps)) (replies.images class avps) }
+        Pushes reply.old reply.new (is_ok result) (not (strict && reading.has_fault class avps))
+        (replies.images class avps) }
 {
     let mut number = 1;
     for avp in list {
@@ -273,7 +282,8 @@ fn push_success_timeouts(
     authorized: Option<u32>,
 ) -> Result<(), Unfit>
     requires short { reply_length reply.old ≤ 4096 }
-    ensures { Pushes reply.old reply.new (is_ok result) true (replies.success_timeouts timeout authorized) }
+    ensures { Pushes reply.old reply.new (is_ok result) true
+        (replies.success_timeouts timeout authorized) }
 {
     let Some(authorized) = authorized else {
         return push_timeout(reply, timeout);
@@ -287,7 +297,8 @@ fn push_success_timeouts(
 /// Pushes the seconds that a session, or the answer to a challenge, may take.
 fn push_timeouts(reply: &mut Reply, class: Class, list: &[Avp<'_>]) -> Result<(), Unfit>
     requires short { reply_length reply.old ≤ 4096 }
-    ensures { Pushes reply.old reply.new (is_ok result) true (replies.timeouts class (list_view list.now)) }
+    ensures { Pushes reply.old reply.new (is_ok result) true
+        (replies.timeouts class (list_view list.now)) }
 {
     match class {
         Class::Success => {
@@ -321,7 +332,8 @@ fn push_payload(
     list: &[Avp<'_>],
 ) -> Result<(), Unfit>
     requires short { reply_length reply.old ≤ 4096 }
-    ensures { Pushes reply.old reply.new (is_ok result) true (replies.eap_messages service class (list_view list.now)) }
+    ensures { Pushes reply.old reply.new (is_ok result) true
+        (replies.eap_messages service class (list_view list.now)) }
 {
     if service != Service::Eap || class == Class::Bad {
         return Ok(());
@@ -345,7 +357,8 @@ fn session_code(class: Class) -> u8
 fn push_carrier(reply: &mut Reply, class: Class, carrier: &Option<Octets>) -> Result<(), Unfit>
     requires short { reply_length reply.old ≤ 4096 }
     requires carrier { IfSome carrier.now (λ value. length value ≤ 253) }
-    ensures { Pushes reply.old reply.new (is_ok result) true (optional (replies.session_code class) carrier.now) }
+    ensures { Pushes reply.old reply.new (is_ok result) true
+        (optional (replies.session_code class) carrier.now) }
 {
     match carrier {
         Some(value) => push(reply, session_code(class), value.as_slice()),
@@ -380,7 +393,8 @@ pub(crate) fn push_all(
     requires whole { proxy.now ≡ attributes_text (attributes_in proxy.now) }
     ensures { let avps = list_view list.now in
         Pushes reply.old reply.new (is_ok result) (not (strict && reading.has_fault class avps))
-        (optional (replies.session_code class) carrier.now ++ replies.images class avps ++ replies.timeouts class avps
+        (optional (replies.session_code class) carrier.now ++ replies.images class avps
+        ++ replies.timeouts class avps
         ++ replies.eap_messages service class avps ++ attributes_in proxy.now) }
 {
     push_carrier(reply, class, carrier)?;

@@ -69,7 +69,8 @@ fn short_state(
     realm: &[u8],
     session: &[u8],
 ) -> Result<Option<Octets>, NoMemory>
-    ensures { IfOk result (λ value. value ≡ reading.short_value (state_text host.now realm.now session.now)) }
+    ensures { IfOk result
+        (λ value. value ≡ reading.short_value (state_text host.now realm.now session.now)) }
 {
     match state_of(alloc, host, realm, session) {
         Ok(state) => Ok(Some(state)),
@@ -99,7 +100,8 @@ pub fn carrier_value(
     list: &[Avp<'_>],
 ) -> Result<Option<Octets>, NoMemory>
     requires { length session.now ≤ 244 }
-    ensures { IfOk result (λ value. value ≡ specs.carrier_value class session.now (list_view list.now)) }
+    ensures { IfOk result
+        (λ value. value ≡ specs.carrier_value class session.now (list_view list.now)) }
 {
     match class {
         Class::Success => class_value(alloc, session),
@@ -128,7 +130,8 @@ pub(crate) fn reply(
 ) -> Result<Option<Octets>, NoMemory>
     requires session { length kept.now.session ≤ 244 }
     requires whole { kept.now.proxy ≡ attributes_text (attributes_in kept.now.proxy) }
-    ensures { IfOk result (λ o. o ≡ attempts.reply_in service class client.now kept.now (list_view list.now) strict) }
+    ensures { IfOk result
+        (λ o. o ≡ attempts.reply_in service class client.now kept.now (list_view list.now) strict) }
 {
     let carrier = carrier_value(alloc, class, kept.session.as_slice(), list)?;
     if is_stateless(class, &carrier) {
@@ -154,7 +157,8 @@ pub fn is_too_long(
     requires session { length kept.now.session ≤ 244 }
     requires whole { kept.now.proxy ≡ attributes_text (attributes_in kept.now.proxy) }
     requires carrier { answers.is_stateless class kept.now (list_view list.now) ≡ false }
-    ensures { IfOk result (λ long. long ≡ not (specs.fits_packet (specs.reply_attributes service class kept.now (list_view list.now)))) }
+    ensures { IfOk result (λ long. long ≡ not
+        (specs.fits_packet (specs.reply_attributes service class kept.now (list_view list.now)))) }
 {
     let reply = reply(alloc, service, class, client, kept, list, false)?;
     Ok(reply.is_none())

@@ -31,7 +31,8 @@ fn put_termination(
     requires realm { length kept.now.realm ≤ 255 }
     requires session { length kept.now.session ≤ 1024 }
     requires host { IfSome (option_copied host) (λ host. length host ≤ 255) }
-    ensures { OnOk result (Puts writer.old writer.new (specs.termination_avps client.now kept.now application cause (option_copied host.entry)) 1796) }
+    ensures { OnOk result (Puts writer.old writer.new (specs.termination_avps client.now kept.now
+        application cause (option_copied host.entry)) 1796) }
 {
     put_names(
         writer,
@@ -59,7 +60,8 @@ pub fn termination(
     requires realm { length kept.now.realm ≤ 255 }
     requires session { length kept.now.session ≤ 1024 }
     requires host { IfSome (option_copied host) (λ host. length host ≤ 255) }
-    ensures { IfOk result (λ o. o ≡ specs.termination_text client.now kept.now application cause (option_copied host.entry) numbers) }
+    ensures { IfOk result (λ o. o ≡ specs.termination_text client.now kept.now application cause
+        (option_copied host.entry) numbers) }
 {
     let header = Header {
         flags: REQUEST | PROXIABLE,

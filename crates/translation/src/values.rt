@@ -34,7 +34,8 @@ fn is_count(direction: Direction, code: u8) -> bool
 
 /// Whether the value has the size and the text of its row, where the row is copied.
 fn fits_row(direction: Direction, attribute: &Attribute<'_>) -> bool
-    ensures { let a = attribute_view attribute.now in result ≡ specs.fits_row direction (row_of a.code) a.value }
+    ensures { let a = attribute_view attribute.now in result
+        ≡ specs.fits_row direction (row_of a.code) a.value }
 {
     match row_of_type(attribute.code) {
         Some(row) => !goes(direction, &row) || forward(&row, attribute.value).is_ok(),

@@ -14,8 +14,10 @@ const MOST_VALUE: usize = 253;
 
 /// Puts the attribute of a member at the end, where it has one.
 fn push_member(reply: &mut Reply, member: &Avp<'_>, tag: u8) -> Result<(), Full>
-    ensures room { is_ok result ≡ has_room_for_own reply.old (attribute_of tag (avp_view member.now)) }
-    ensures ok { OnOk result (reply.new ≡ with_own reply.old (attribute_of tag (avp_view member.now))) }
+    ensures room { is_ok result
+        ≡ has_room_for_own reply.old (attribute_of tag (avp_view member.now)) }
+    ensures ok { OnOk result
+        (reply.new ≡ with_own reply.old (attribute_of tag (avp_view member.now))) }
     ensures err { OnErr result (reply.new ≡ reply.old) }
 {
     let Some(body) = attribute_body(member) else {
@@ -33,7 +35,8 @@ fn push_member(reply: &mut Reply, member: &Avp<'_>, tag: u8) -> Result<(), Full>
 pub fn push_group(reply: &mut Reply, body: &[u8], tag: u8) -> Result<(), Full>
     requires { group_fault tag body.now ≡ None }
     ensures room { is_ok result ≡ has_room_for reply.old (group_attributes tag body.now) }
-    ensures ok { OnOk result (reply.new ≡ with_attributes reply.old (group_attributes tag body.now)) }
+    ensures ok { OnOk result
+        (reply.new ≡ with_attributes reply.old (group_attributes tag body.now)) }
     ensures err { OnErr result (PushedInPart reply.old reply.new (group_attributes tag body.now)) }
 {
     for item in avps(body) {

@@ -22,7 +22,8 @@ pub struct Tagged<'a> {
 
 /// A number, where the value is a tag and three octets.
 fn number_in(value: &[u8]) -> Option<Tagged<'_>>
-    ensures for_code { (code : ℕ) → option_map (tagged_view code) result ≡ specs.number_in code value.now }
+    ensures for_code { (code : ℕ)
+        → option_map (tagged_view code) result ≡ specs.number_in code value.now }
 {
     match value {
         [tag, body @ ..] if *tag <= MOST_TAG && body.len() == 3 => Some(Tagged {

@@ -16,10 +16,13 @@ const TUNNELING: u32 = 401;
 
 /// Puts the member of an attribute at the end, where the attribute has this tag.
 fn put_member(out: &mut AvpWriter, attribute: &Attribute<'_>, tag: u8) -> Result<(), WriteFault>
-    ensures ok { OnOk result (out.new ≡ with_avps out.old (members tag (attribute_view attribute.now ∷ []))) }
+    ensures ok { OnOk result
+        (out.new ≡ with_avps out.old (members tag (attribute_view attribute.now ∷ []))) }
     ensures too_long { result ≡ Err WriteFault.TooLong
-        → 65516 < length (avps_text (with_avps out.old (members tag (attribute_view attribute.now ∷ []))).list) }
-    ensures short { OnOk result (length (avps_text out.old.list) ≤ 65516 → length (avps_text out.new.list) ≤ 65516) }
+        → 65516 < length
+        (avps_text (with_avps out.old (members tag (attribute_view attribute.now ∷ []))).list) }
+    ensures short { OnOk result
+        (length (avps_text out.old.list) ≤ 65516 → length (avps_text out.new.list) ≤ 65516) }
     ensures err { OnErr result (out.new ≡ out.old) }
 {
     let Some(tagged) = tag_of(attribute.code, attribute.value) else {

@@ -23,5 +23,6 @@ pub trait Desk {
     /// One step. Refused, it is a blank turn. It may wait, and then all that come to the turnstile do.
     fn step<R: Wait>(&mut self, rt: &R, ask: Self::Ask) -> Result<Self::Answer, Self::Refusal>
         ensures refused { IfErr result (λ e. refuses ask e) }
-        ensures turn { (base : Self.Base) (turns : List (Option (Self.Ask × Self.Answer))) → stands self.old base turns → stands self.new base (turns ++ entry_of ask result ∷ []) };
+        ensures turn { (base : Self.Base) (turns : List (Option (Self.Ask × Self.Answer))) → stands
+            self.old base turns → stands self.new base (turns ++ entry_of ask result ∷ []) };
 }

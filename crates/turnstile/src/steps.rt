@@ -37,7 +37,9 @@ pub(crate) type Place<D> = Seat<Option<D>, View<D, <D as Desk>::Ask, <D as Desk>
 pub(crate) fn draw<D: Desk>(top: &Top<D>, seat: &mut Place<D>) -> u64
     requires table { (seat.old.table_id ≡ top.now.table_id) × (top.now.table_id.words ≡ 2) }
     requires idle { (seat.old.me.0.stage ≡ Idle) × (0 < length seat.old.me.0.known.numbers) }
-    ensures same { (seat.new.table_id ≡ seat.old.table_id) × (seat.new.me.0.known ≡ seat.old.me.0.known) × (seat.new.me.0.told ≡ seat.old.me.0.told) × (seat.new.me.1 ≡ seat.old.me.1) }
+    ensures same { (seat.new.table_id ≡ seat.old.table_id)
+        × (seat.new.me.0.known ≡ seat.old.me.0.known) × (seat.new.me.0.told ≡ seat.old.me.0.told)
+        × (seat.new.me.1 ≡ seat.old.me.1) }
     ensures drawn { AtTicket seat.new result }
 {
     top.fetch_add::<Draw>(seat, TICKET, 1)
@@ -80,9 +82,11 @@ pub(crate) fn wait<D: Desk, R: Wait>(
     ticket: u64,
     sleepers: &AtomicU32,
 )
-    requires table { (seat.old.table_id ≡ top.now.table_id) × (top.now.table_id.words ≡ 2) × (top.now.table_id.slots ≡ 1) }
+    requires table { (seat.old.table_id ≡ top.now.table_id) × (top.now.table_id.words ≡ 2)
+        × (top.now.table_id.slots ≡ 1) }
     requires drawn { AtTicket seat.old ticket }
-    requires ready { (seat.old.me.0.told ≡ []) × (seat.old.me.1 ≡ []) × (0 < length seat.old.me.0.known.numbers) }
+    requires ready { (seat.old.me.0.told ≡ []) × (seat.old.me.1 ≡ [])
+        × (0 < length seat.old.me.0.known.numbers) }
     ensures table { seat.new.table_id ≡ seat.old.table_id }
     ensures due { Due D.stands seat.old.me seat.new.me }
 {
@@ -108,7 +112,10 @@ pub(crate) fn serve<D: Desk, R: Wait>(
     requires hand { (desk : D) × (seat.old.me.1 ≡ (0, Some desk) ∷ []) }
     ensures table { seat.new.table_id ≡ seat.old.table_id }
     ensures refused { IfErr result (λ e. D.refuses ask e) }
-    ensures stepped { (desk : D) → seat.old.me.1 ≡ (0, Some desk) ∷ [] → (next : D) × (seat.new.me ≡ (seat.old.me.0, (0, Some next) ∷ [])) × ((base : D.Base) (turns : List (Option (D.Ask × D.Answer))) → D.stands desk base turns → D.stands next base (turns ++ entry_of ask result ∷ [])) }
+    ensures stepped { (desk : D) → seat.old.me.1 ≡ (0, Some desk) ∷ []
+        → (next : D) × (seat.new.me ≡ (seat.old.me.0, (0, Some next) ∷ []))
+        × ((base : D.Base) (turns : List (Option (D.Ask × D.Answer))) → D.stands desk base turns
+        → D.stands next base (turns ++ entry_of ask result ∷ [])) }
 {
     let mut desk = top.exchange(seat, 0, None).unwrap();
     let outcome = desk.step(rt, ask);
@@ -127,9 +134,12 @@ pub(crate) fn raise<D: Desk, T: Turned<D::Ask, D::Answer>>(
 )
     requires table { (seat.old.table_id ≡ top.now.table_id) × (top.now.table_id.words ≡ 2) }
     requires turn { T.turn ≡ entry_of ask.now.value outcome.now }
-    requires serves { (t : ℕ) × (seat.old.me.0.stage ≡ Serves t) × (seat.old.me.0.told ≡ []) × (0 < length seat.old.me.0.known.numbers) }
-    requires hand { (desk : D) × (seat.old.me.1 ≡ (0, Some desk) ∷ []) × Stands D.stands seat.old.me.0.known desk (after T.turn seat.old.me.0.known).seen }
-    ensures { (seat.new.table_id ≡ seat.old.table_id) × (seat.new.me ≡ (idle (after (entry_of ask.now.value outcome.now) seat.old.me.0.known), [])) }
+    requires serves { (t : ℕ) × (seat.old.me.0.stage ≡ Serves t) × (seat.old.me.0.told ≡ [])
+        × (0 < length seat.old.me.0.known.numbers) }
+    requires hand { (desk : D) × (seat.old.me.1 ≡ (0, Some desk) ∷ [])
+        × Stands D.stands seat.old.me.0.known desk (after T.turn seat.old.me.0.known).seen }
+    ensures { (seat.new.table_id ≡ seat.old.table_id) × (seat.new.me
+        ≡ (idle (after (entry_of ask.now.value outcome.now) seat.old.me.0.known), [])) }
 {
     let _ = ask;
     let _ = outcome;
@@ -140,18 +150,23 @@ pub(crate) fn raise<D: Desk, T: Turned<D::Ask, D::Answer>>(
 pub(crate) fn learn<D: Desk>(top: &Top<D>, seat: &mut Place<D>)
     requires table { (seat.old.table_id ≡ top.now.table_id) × (top.now.table_id.words ≡ 2) }
     requires idle { (seat.old.me.0.stage ≡ Idle) × (seat.old.me.1 ≡ []) }
-    ensures same { (seat.new.table_id ≡ seat.old.table_id) × (seat.new.me ≡ (idle seat.old.me.0.known, [])) }
-    ensures agree { (v : Known D D.Ask D.Answer) (u : Known D D.Ask D.Answer) → seat.old.me.0.told ≡ v ∷ u ∷ [] → 0 < length v.numbers → 0 < length u.numbers → seat.old.me.0.known.seen ≡ longer v.seen u.seen → Agree seat.old.me.0.known v u }
+    ensures same { (seat.new.table_id ≡ seat.old.table_id)
+        × (seat.new.me ≡ (idle seat.old.me.0.known, [])) }
+    ensures agree { (v : Known D D.Ask D.Answer) (u : Known D D.Ask D.Answer)
+        → seat.old.me.0.told ≡ v ∷ u ∷ [] → 0 < length v.numbers → 0 < length u.numbers
+        → seat.old.me.0.known.seen ≡ longer v.seen u.seen → Agree seat.old.me.0.known v u }
 {
     top.load::<Learn>(seat, TICKET);
 }
 
 /// Takes the desk for good, as the seat with all numbers.
 pub(crate) fn finish<D: Desk>(top: &Top<D>, seat: &mut Place<D>) -> D
-    requires table { (seat.old.table_id ≡ top.now.table_id) × (top.now.table_id.words ≡ 2) × (top.now.table_id.slots ≡ 1) }
+    requires table { (seat.old.table_id ≡ top.now.table_id) × (top.now.table_id.words ≡ 2)
+        × (top.now.table_id.slots ≡ 1) }
     requires waits { (t : ℕ) × (seat.old.me.0.stage ≡ Waits t) }
     requires all { (length seat.old.me.0.known.numbers ≡ 4) × (seat.old.me.1 ≡ []) }
-    ensures seen { (seat.new.me.0.known.seen ≡ seat.old.me.0.known.seen) × Numbered seat.old.me.0.known.seen }
+    ensures seen { (seat.new.me.0.known.seen ≡ seat.old.me.0.known.seen)
+        × Numbered seat.old.me.0.known.seen }
     ensures stands { Stands D.stands seat.old.me.0.known result seat.old.me.0.known.seen }
 {
     top.load::<Finish>(seat, TURN);

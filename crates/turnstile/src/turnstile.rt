@@ -45,7 +45,8 @@ impl<D: Desk> Turnstile<D> {
     pub fn start(alloc: Global, desk: D) -> Result<(Turnstile<D>, Pass<D>), Unstarted<D>>
         ensures table { IfOk result (λ r. table_of r.1 ≡ r.0) }
         ensures fresh { IfOk result (λ r. known r.1 ≡ fresh desk) }
-        ensures carries { (base : D.Base) → D.stands desk base [] → IfOk result (λ r. Carries D.stands (known r.1) base) }
+        ensures carries { (base : D.Base) → D.stands desk base []
+            → IfOk result (λ r. Carries D.stands (known r.1) base) }
         ensures same { IfErr result (λ u. u.desk ≡ desk) }
     {
         let about = Snapshot::of(&desk);
@@ -71,7 +72,8 @@ impl<D: Desk> Turnstile<D> {
         ensures table { table_of pass.new ≡ table_of pass.old }
         ensures refused { IfErr result (λ e. D.refuses ask e) }
         ensures turn { Visited (entry_of ask result) (known pass.old) (known pass.new) }
-        ensures stood { (base : D.Base) → Carries D.stands (known pass.old) base → (desk : D) × D.stands desk base (plain (known pass.new).seen) }
+        ensures stood { (base : D.Base) → Carries D.stands (known pass.old) base
+            → (desk : D) × D.stands desk base (plain (known pass.new).seen) }
     {
         let top = &self.table.shared;
         hold_back(rt, top, &self.sleepers);
@@ -88,7 +90,8 @@ impl<D: Desk> Turnstile<D> {
     pub fn split(&self, pass: &mut Pass<D>) -> Pass<D>
         requires table { table_of pass.old ≡ self.now }
         requires two { 1 < length (known pass.old).numbers }
-        ensures tables { (table_of pass.new ≡ table_of pass.old) × (table_of result ≡ table_of pass.old) }
+        ensures tables { (table_of pass.new ≡ table_of pass.old)
+            × (table_of result ≡ table_of pass.old) }
         ensures left { known pass.new ≡ left_of (known pass.old) }
         ensures right { known result ≡ right_of (known pass.old) }
     {
@@ -113,7 +116,8 @@ impl<D: Desk> Turnstile<D> {
         requires all { length (known pass).numbers ≡ 4 }
         ensures turns { (result.1 ≡ (known pass).seen) × Numbered result.1 }
         ensures own { (n : ℕ) → of n result.1 ≡ of n (known pass).seen }
-        ensures stands { (base : D.Base) → Carries D.stands (known pass) base → D.stands result.0 base (plain result.1) }
+        ensures stands { (base : D.Base) → Carries D.stands (known pass) base
+            → D.stands result.0 base (plain result.1) }
     {
         let top = &self.table.shared;
         let mut seat = pass.into_seat();

@@ -34,7 +34,8 @@ impl Model for SteadySource {
 impl SteadySource {
     /// A source of these octets, of which a read gives at most `piece`, and at least one while any is left.
     pub fn new(alloc: Global, octets: &[u8], piece: usize) -> Result<SteadySource, NoMemory>
-        ensures { IfOk result (λ s. s ≡ record { left = octets.now; piece = max piece 1; ends = 0 }) }
+        ensures { IfOk result
+            (λ s. s ≡ record { left = octets.now; piece = max piece 1; ends = 0 }) }
     {
         Ok(SteadySource {
             octets: Vec::from_slice(alloc, octets)?,
@@ -124,11 +125,14 @@ impl Source for MemorySource {
 
     fn read(&mut self, buf: &mut [u8]) -> Got
         ensures answer { result ≡ planned_answer self.old (length buf.old) }
-        ensures plan { (self.new.failing ≡ self.old.failing) × (self.new.calls ≡ min (self.old.calls + 1) usize.MAX) }
+        ensures plan { (self.new.failing ≡ self.old.failing)
+            × (self.new.calls ≡ min (self.old.calls + 1) usize.MAX) }
         ensures piece { self.new.source.piece ≡ self.old.source.piece }
-        ensures reads { GotReads result (Some self.old.source.left) (Some self.new.source.left) buf.new }
+        ensures reads { GotReads result (Some self.old.source.left) (Some self.new.source.left)
+            buf.new }
         ensures end { IsEnd result (length buf.old) → IsAtEnd (Some self.old.source.left) }
-        ensures counts_ends { Counts (IsEnd result (length buf.old)) self.old.source.ends self.new.source.ends }
+        ensures counts_ends { Counts (IsEnd result (length buf.old)) self.old.source.ends
+            self.new.source.ends }
         ensures counts_faults { Counts (GotFailed result) self.old.faults self.new.faults }
     {
         let fails = is_to_fail(self.calls, &self.failing);
@@ -185,7 +189,8 @@ impl Sink for SteadySink {
     ghost faults = { λ _. 0 };
 
     fn write(&mut self, piece: &[u8]) -> Put
-        ensures keeps { self.new ≡ record self.old { octets = take self.old.room (self.old.octets ++ piece.now) } }
+        ensures keeps { self.new
+            ≡ record self.old { octets = take self.old.room (self.old.octets ++ piece.now) } }
         ensures writes { PutWrites result None None piece.now }
         ensures counts_faults { Counts (PutFailed result) 0 0 }
     {
@@ -223,7 +228,8 @@ impl MemorySink {
     /// A sink with room for so many octets before it needs more memory. The writes whose numbers are in
     /// `failing`, counted from 0, fail. A write that finds no memory fails too.
     pub fn new(alloc: Global, room: usize, failing: &[usize]) -> Result<MemorySink, NoMemory>
-        ensures { IfOk result (λ s. s ≡ record { written = []; room = room; failing = failing.now; calls = 0; faults = 0 }) }
+        ensures { IfOk result (λ s. s
+            ≡ record { written = []; room = room; failing = failing.now; calls = 0; faults = 0 }) }
     {
         Ok(MemorySink {
             octets: Vec::with_capacity(alloc, room)?,
@@ -248,10 +254,13 @@ impl Sink for MemorySink {
 
     fn write(&mut self, piece: &[u8]) -> Put
         ensures listed { is_listed self.old.calls self.old.failing ≡ true → result ≡ Put.Failed }
-        ensures succeeds { is_listed self.old.calls self.old.failing ≡ false → length self.old.written + length piece.now ≤ self.old.room → result ≡ Put.Done }
-        ensures plan { (self.new.failing ≡ self.old.failing) × (self.new.calls ≡ min (self.old.calls + 1) usize.MAX) }
+        ensures succeeds { is_listed self.old.calls self.old.failing ≡ false
+            → length self.old.written + length piece.now ≤ self.old.room → result ≡ Put.Done }
+        ensures plan { (self.new.failing ≡ self.old.failing)
+            × (self.new.calls ≡ min (self.old.calls + 1) usize.MAX) }
         ensures room { self.old.room ≤ self.new.room }
-        ensures writes { PutWrites result (Some self.old.written) (Some self.new.written) piece.now }
+        ensures writes { PutWrites result (Some self.old.written) (Some self.new.written)
+            piece.now }
         ensures counts_faults { Counts (PutFailed result) self.old.faults self.new.faults }
     {
         let fails = is_to_fail(self.calls, &self.failing);

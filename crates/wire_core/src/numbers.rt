@@ -39,7 +39,8 @@ pub fn get_u64(octets: &[u8], place: usize) -> u64
 /// Puts these octets at `place`, over the ones that stand there.
 pub(crate) fn put(octets: &mut [u8], place: usize, from: &[u8])
     requires { place + length from.now ≤ length octets.old }
-    ensures { octets.new ≡ take place octets.old ++ from.now ++ drop (place + length from.now) octets.old }
+    ensures { octets.new
+        ≡ take place octets.old ++ from.now ++ drop (place + length from.now) octets.old }
 {
     octets[place..place + from.len()].copy_from_slice(from);
 }

@@ -57,7 +57,8 @@ impl Octets {
     /// Puts these octets at `place`, over the ones that stand there.
     pub fn overwrite(&mut self, place: usize, from: &[u8])
         requires { place + length from.now ≤ length self.old }
-        ensures { self.new ≡ take place self.old ++ from.now ++ drop (place + length from.now) self.old }
+        ensures { self.new
+            ≡ take place self.old ++ from.now ++ drop (place + length from.now) self.old }
     {
         put(self.octets.as_mut_slice(), place, from);
     }

@@ -40,7 +40,8 @@ pub trait Source {
     fn read(&mut self, buf: &mut [u8]) -> Got
         ensures reads { GotReads result (left self.old) (left self.new) buf.new }
         ensures end { IsEnd result (length buf.old) → IsAtEnd (left self.old) }
-        ensures counts_ends { Counts (IsEnd result (length buf.old)) (ends self.old) (ends self.new) }
+        ensures counts_ends { Counts (IsEnd result (length buf.old)) (ends self.old)
+            (ends self.new) }
         ensures counts_faults { Counts (GotFailed result) (faults self.old) (faults self.new) };
 }
 

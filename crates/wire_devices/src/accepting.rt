@@ -91,7 +91,8 @@ impl<R: Wait + rt::Clock + Copy> Dialer for TcpAccepter<R> {
 }
 
 fn accept<R: Copy>(rt: R, listener: Option<TcpListener>) -> io::Result<(TcpIn, TcpOut<R>)>
-    ensures { IfOk result (λ ends. (ends.0 ≡ record { faults = 0; ends = 0; number = None }) × (ends.1 ≡ 0)) }
+    ensures { IfOk result
+        (λ ends. (ends.0 ≡ record { faults = 0; ends = 0; number = None }) × (ends.1 ≡ 0)) }
 {
     let Some(listener) = listener else {
         return Err(io::Error::from(ErrorKind::NotConnected));

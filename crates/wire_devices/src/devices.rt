@@ -118,8 +118,10 @@ pub trait Dialer {
 
     /// The two ends of a link that was just made. None counts as a fault.
     fn dial(&mut self) -> Option<(Self::In, Self::Out)>
-        ensures fresh { IfSome result (λ ends. IsFreshInlet (Self.In.told ends.0) × IsFreshOutlet (Self.Out.told ends.1)) }
+        ensures fresh { IfSome result
+            (λ ends. IsFreshInlet (Self.In.told ends.0) × IsFreshOutlet (Self.Out.told ends.1)) }
         ensures dialled { Dialled result (told self.old) (told self.new) }
-        ensures numbered { IfSome result (λ ends. TellsOnly (Self.In.told ends.0).number (made self.old)) }
+        ensures numbered { IfSome result
+            (λ ends. TellsOnly (Self.In.told ends.0).number (made self.old)) }
         ensures counted { Counts (IsSome result) (made self.old) (made self.new) };
 }

@@ -34,7 +34,8 @@ impl Model for SteadyLine {
 impl SteadyLine {
     /// A link with the ends of `SteadyLinkIn::new(octets, looks)` and `SteadyLinkOut::new(room)`.
     pub fn new(octets: Vec<u8>, looks: VecDeque<usize>, room: Vec<u8>) -> SteadyLine
-        ensures { result ≡ record { octets = octets.items; looks = looks.items; room = vec_capacity room } }
+        ensures { result
+            ≡ record { octets = octets.items; looks = looks.items; room = vec_capacity room } }
     {
         SteadyLine {
             octets,
@@ -100,12 +101,16 @@ impl Dialer for SteadyDialer {
     ghost made = { λ d. d.made };
 
     fn dial(&mut self) -> Option<(SteadyLinkIn, SteadyLinkOut)>
-        ensures link { result ≡ Some (made_of self.old.made (unwrap_or (slice_get self.old.lines 0) empty_script)) }
+        ensures link { result
+            ≡ Some (made_of self.old.made (unwrap_or (slice_get self.old.lines 0) empty_script)) }
         ensures lines { self.new.lines ≡ drop 1 self.old.lines }
         ensures counted { Counts (IsSome result) self.old.made self.new.made }
-        ensures fresh { IfSome result (λ ends. IsFreshInlet (told_of_stream ends.0 0) × IsFreshOutlet (told_of_wall ends.1 0)) }
-        ensures dialled { Dialled result (record { faults = 0; row = 0 }) (record { faults = 0; row = 0 }) }
-        ensures numbered { IfSome result (λ ends. TellsOnly (told_of_stream ends.0 0).number self.old.made) }
+        ensures fresh { IfSome result (λ ends. IsFreshInlet (told_of_stream ends.0 0)
+            × IsFreshOutlet (told_of_wall ends.1 0)) }
+        ensures dialled { Dialled result (record { faults = 0; row = 0 })
+            (record { faults = 0; row = 0 }) }
+        ensures numbered { IfSome result
+            (λ ends. TellsOnly (told_of_stream ends.0 0).number self.old.made) }
     {
         let number = self.made;
         self.made = self.made.saturating_add(1);
@@ -139,7 +144,8 @@ impl Model for Line {
 impl Line {
     /// The link of which the receives and the sends that are listed, counted from 0, fail.
     pub fn new(line: SteadyLine, failing_receives: Vec<usize>, failing_sends: Vec<usize>) -> Line
-        ensures { result ≡ record { script = line; receives = failing_receives.items; sends = failing_sends.items } }
+        ensures { result ≡ record
+            { script = line; receives = failing_receives.items; sends = failing_sends.items } }
     {
         Line {
             line,
@@ -181,7 +187,13 @@ impl MemoryDialer {
     /// A dialer that makes these links in turn, and then such as end at once. The dials whose numbers are in `failing`,
     /// counted from 0, fail, and make none.
     pub fn new(alloc: Global, lines: VecDeque<Line>, failing: Vec<usize>) -> MemoryDialer
-        ensures { result ≡ record { lines = lines.items; dials = plan_of failing.items; told = record { faults = 0; row = 0 }; made = 0 } }
+        ensures { result ≡ record {
+          lines = lines.items;
+          dials = plan_of failing.items;
+          told =
+              record { faults = 0; row = 0 };
+          made = 0;
+        } }
     {
         MemoryDialer {
             alloc,
@@ -214,12 +226,16 @@ impl Dialer for MemoryDialer {
     ghost made = { λ d. d.made };
 
     fn dial(&mut self) -> Option<(MemoryLinkIn, MemoryLinkOut)>
-        ensures link { result ≡ (if is_due self.old.dials then None else Some (made_of_planned self.old.made (unwrap_or (slice_get self.old.lines 0) empty_planned_script))) }
-        ensures lines { self.new.lines ≡ (if is_due self.old.dials then self.old.lines else drop 1 self.old.lines) }
+        ensures link { result ≡ (if is_due self.old.dials then None else Some (made_of_planned
+            self.old.made (unwrap_or (slice_get self.old.lines 0) empty_planned_script))) }
+        ensures lines { self.new.lines
+            ≡ (if is_due self.old.dials then self.old.lines else drop 1 self.old.lines) }
         ensures plan { self.new.dials ≡ next_call self.old.dials }
-        ensures fresh { IfSome result (λ ends. IsFreshInlet (told_of_planned_stream ends.0) × IsFreshOutlet (told_of_planned_wall ends.1)) }
+        ensures fresh { IfSome result (λ ends. IsFreshInlet (told_of_planned_stream ends.0)
+            × IsFreshOutlet (told_of_planned_wall ends.1)) }
         ensures dialled { Dialled result self.old.told self.new.told }
-        ensures numbered { IfSome result (λ ends. TellsOnly (told_of_planned_stream ends.0).number self.old.made) }
+        ensures numbered { IfSome result
+            (λ ends. TellsOnly (told_of_planned_stream ends.0).number self.old.made) }
         ensures counted { Counts (IsSome result) self.old.made self.new.made }
     {
         if self.dials.fails() {

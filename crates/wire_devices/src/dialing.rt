@@ -154,7 +154,8 @@ fn connect<R: Net<Listener = TcpListener, Stream = TcpStream> + Copy>(
     port: u16,
     waker: Option<Waker>,
 ) -> io::Result<(TcpIn, TcpOut<R>)>
-    ensures { IfOk result (λ ends. (ends.0 ≡ record { faults = 0; ends = 0; number = None }) × (ends.1 ≡ 0)) }
+    ensures { IfOk result
+        (λ ends. (ends.0 ≡ record { faults = 0; ends = 0; number = None }) × (ends.1 ≡ 0)) }
 {
     let place = SocketAddr::new(IpAddr::V4(Ipv4Addr::from(address)), port);
     let stream = TcpStream::connect_timeout(&rt, &place, Duration::from_millis(PATIENCE))?;

@@ -70,9 +70,11 @@ impl LinkIn for SteadyLinkIn {
     ghost told = { λ s. told_of_stream s 0 };
 
     fn receive(&mut self, buf: &mut [u8]) -> LinkGot
-        ensures answer { result ≡ next_got (slice_get self.old.looks 0) self.old.left (length buf.old) }
+        ensures answer { result
+            ≡ next_got (slice_get self.old.looks 0) self.old.left (length buf.old) }
         ensures looks { self.new.looks ≡ drop 1 self.old.looks }
-        ensures hears { Hears result (told_of_stream self.old 0) (told_of_stream self.new 0) buf.new }
+        ensures hears { Hears result (told_of_stream self.old 0) (told_of_stream self.new 0)
+            buf.new }
     {
         let look = next_look(&mut self.looks);
         if is_quiet(look) {
@@ -148,10 +150,13 @@ impl LinkIn for MemoryLinkIn {
     ghost told = { told_of_planned_stream };
 
     fn receive(&mut self, buf: &mut [u8]) -> LinkGot
-        ensures answer { result ≡ (if is_due self.old.receives then LinkGot.Failed else next_got (slice_get self.old.stream.looks 0) self.old.stream.left (length buf.old)) }
-        ensures looks { self.new.stream.looks ≡ (if is_due self.old.receives then self.old.stream.looks else drop 1 self.old.stream.looks) }
+        ensures answer { result ≡ (if is_due self.old.receives then LinkGot.Failed else next_got
+            (slice_get self.old.stream.looks 0) self.old.stream.left (length buf.old)) }
+        ensures looks { self.new.stream.looks ≡ (if is_due self.old.receives then
+            self.old.stream.looks else drop 1 self.old.stream.looks) }
         ensures plan { self.new.receives ≡ next_call self.old.receives }
-        ensures hears { Hears result (told_of_planned_stream self.old) (told_of_planned_stream self.new) buf.new }
+        ensures hears { Hears result (told_of_planned_stream self.old)
+            (told_of_planned_stream self.new) buf.new }
     {
         if self.receives.fails() {
             self.faults = self.faults.saturating_add(1);
@@ -204,7 +209,8 @@ impl SteadyLinkOut {
 
     /// Keeps these octets too, where there is room.
     fn keep(&mut self, octets: &[u8])
-        ensures told { IfSome self.old.handed (λ xs. length xs + length octets.now ≤ self.old.room → self.new.handed ≡ Some (xs ++ octets.now)) }
+        ensures told { IfSome self.old.handed (λ xs. length xs + length octets.now ≤ self.old.room
+            → self.new.handed ≡ Some (xs ++ octets.now)) }
         ensures room { self.old.room ≤ self.new.room }
         ensures adds { Adds self.old.handed self.new.handed octets.now }
     {
@@ -218,9 +224,11 @@ impl LinkOut for SteadyLinkOut {
 
     fn send(&mut self, octets: &[u8]) -> Put
         ensures done { result ≡ Put.Done }
-        ensures told { IfSome self.old.handed (λ xs. length xs + length octets.now ≤ self.old.room → self.new.handed ≡ Some (xs ++ octets.now)) }
+        ensures told { IfSome self.old.handed (λ xs. length xs + length octets.now ≤ self.old.room
+            → self.new.handed ≡ Some (xs ++ octets.now)) }
         ensures room { self.old.room ≤ self.new.room }
-        ensures speaks { Speaks result (told_of_wall self.old 0) (told_of_wall self.new 0) octets.now }
+        ensures speaks { Speaks result (told_of_wall self.old 0) (told_of_wall self.new 0)
+            octets.now }
     {
         self.keep(octets);
         Put::Done
@@ -278,10 +286,12 @@ impl LinkOut for MemoryLinkOut {
 
     fn send(&mut self, octets: &[u8]) -> Put
         ensures answer { result ≡ (if is_due self.old.sends then Put.Failed else Put.Done) }
-        ensures told { IfSome self.old.wall.handed (λ xs. length xs + length octets.now ≤ self.old.wall.room → IsSome self.new.wall.handed) }
+        ensures told { IfSome self.old.wall.handed (λ xs. length xs + length octets.now
+            ≤ self.old.wall.room → IsSome self.new.wall.handed) }
         ensures room { self.old.wall.room ≤ self.new.wall.room }
         ensures plan { self.new.sends ≡ next_call self.old.sends }
-        ensures speaks { Speaks result (told_of_planned_wall self.old) (told_of_planned_wall self.new) octets.now }
+        ensures speaks { Speaks result (told_of_planned_wall self.old)
+            (told_of_planned_wall self.new) octets.now }
     {
         if self.sends.fails() {
             self.faults = self.faults.saturating_add(1);

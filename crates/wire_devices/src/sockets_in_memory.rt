@@ -63,7 +63,8 @@ impl SteadyDatagrams {
 
     /// Keeps what `send` was handed.
     fn hand(&mut self, address: u32, port: u16, octets: &[u8])
-        ensures handed { Adds self.old.handed self.new.handed (datagram address port octets.now ∷ []) }
+        ensures handed { Adds self.old.handed self.new.handed
+            (datagram address port octets.now ∷ []) }
         ensures same { self.new ≡ record self.old { handed = self.new.handed } }
     {
         self.handed = keep(self.alloc, self.handed.take(), address, port, octets);
@@ -77,7 +78,8 @@ impl Datagrams for SteadyDatagrams {
         ensures answer { result ≡ next_took (next_find self.old.looks) (length buf.old) }
         ensures filled { buf.new ≡ filled (next_find self.old.looks) buf.old }
         ensures looks { self.new.looks ≡ drop 1 self.old.looks }
-        ensures receives { Receives result (told_of_post self.old 0 0) (told_of_post self.new 0 0) buf.new }
+        ensures receives { Receives result (told_of_post self.old 0 0) (told_of_post self.new 0 0)
+            buf.new }
     {
         match next_look(&mut self.looks).flatten() {
             Some(datagram) => {
@@ -106,7 +108,8 @@ impl Datagrams for SteadyDatagrams {
     fn send(&mut self, address: u32, port: u16, octets: &[u8]) -> Put
         ensures done { result ≡ Put.Done }
         ensures looks { self.new.looks ≡ self.old.looks }
-        ensures sends { Sends result (told_of_post self.old 0 0) (told_of_post self.new 0 0) (datagram address port octets.now) }
+        ensures sends { Sends result (told_of_post self.old 0 0) (told_of_post self.new 0 0)
+            (datagram address port octets.now) }
     {
         self.hand(address, port, octets);
         Put::Done
@@ -116,8 +119,10 @@ impl Datagrams for SteadyDatagrams {
         ensures twin { result ≡ Some (fresh_post []) }
         ensures same { self.new ≡ self.old }
         ensures fresh { IfSome result (λ twin. IsFreshSocket (told_of_post twin 0 0)) }
-        ensures port { IfSome result (λ twin. (told_of_post twin 0 0).port ≡ (told_of_post self.old 0 0).port) }
-        ensures twinned { Twinned (IsNone result) (told_of_post self.old 0 0) (told_of_post self.new 0 0) }
+        ensures port { IfSome result
+            (λ twin. (told_of_post twin 0 0).port ≡ (told_of_post self.old 0 0).port) }
+        ensures twinned { Twinned (IsNone result) (told_of_post self.old 0 0)
+            (told_of_post self.new 0 0) }
     {
         Some(SteadyDatagrams::new(self.alloc, VecDeque::new(self.alloc)))
     }
@@ -141,7 +146,8 @@ fn keep(
     port: u16,
     octets: &[u8],
 ) -> Option<Vec<Datagram>>
-    ensures { Adds (option_map (λ v. v.items) kept) (option_map (λ v. v.items) result) (datagram address port octets.now ∷ []) }
+    ensures { Adds (option_map (λ v. v.items) kept) (option_map (λ v. v.items) result)
+        (datagram address port octets.now ∷ []) }
 {
     match with_one_more(alloc, kept?, address, port, octets) {
         Ok(longer) => Some(longer),
@@ -207,7 +213,8 @@ impl MemoryDatagrams {
         failing_sends: Vec<usize>,
         refused_twins: Vec<usize>,
     ) -> MemoryDatagrams
-        ensures { result ≡ planned_post looks.items failing_receives.items failing_sends.items refused_twins.items }
+        ensures { result ≡ planned_post looks.items failing_receives.items failing_sends.items
+            refused_twins.items }
     {
         MemoryDatagrams {
             socket: SteadyDatagrams::new(alloc, looks),
@@ -231,11 +238,16 @@ impl Datagrams for MemoryDatagrams {
     ghost told = { told_of_planned_post };
 
     fn receive(&mut self, buf: &mut [u8]) -> Took
-        ensures answer { result ≡ (if is_due self.old.receives then Took.Failed else next_took (next_find self.old.post.looks) (length buf.old)) }
-        ensures filled { buf.new ≡ (if is_due self.old.receives then buf.old else filled (next_find self.old.post.looks) buf.old) }
-        ensures looks { self.new.post.looks ≡ (if is_due self.old.receives then self.old.post.looks else drop 1 self.old.post.looks) }
-        ensures plans { (self.new.receives ≡ next_call self.old.receives) × (self.new.sends ≡ self.old.sends) × (self.new.twins ≡ self.old.twins) }
-        ensures receives { Receives result (told_of_planned_post self.old) (told_of_planned_post self.new) buf.new }
+        ensures answer { result ≡ (if is_due self.old.receives then Took.Failed else next_took
+            (next_find self.old.post.looks) (length buf.old)) }
+        ensures filled { buf.new ≡ (if is_due self.old.receives then buf.old else filled
+            (next_find self.old.post.looks) buf.old) }
+        ensures looks { self.new.post.looks ≡
+            (if is_due self.old.receives then self.old.post.looks else drop 1 self.old.post.looks) }
+        ensures plans { (self.new.receives ≡ next_call self.old.receives)
+            × (self.new.sends ≡ self.old.sends) × (self.new.twins ≡ self.old.twins) }
+        ensures receives { Receives result (told_of_planned_post self.old)
+            (told_of_planned_post self.new) buf.new }
     {
         if self.receives.fails() {
             self.faults = self.faults.saturating_add(1);
@@ -249,8 +261,10 @@ impl Datagrams for MemoryDatagrams {
     fn send(&mut self, address: u32, port: u16, octets: &[u8]) -> Put
         ensures answer { result ≡ (if is_due self.old.sends then Put.Failed else Put.Done) }
         ensures looks { self.new.post.looks ≡ self.old.post.looks }
-        ensures plans { (self.new.receives ≡ self.old.receives) × (self.new.sends ≡ next_call self.old.sends) × (self.new.twins ≡ self.old.twins) }
-        ensures sends { Sends result (told_of_planned_post self.old) (told_of_planned_post self.new) (datagram address port octets.now) }
+        ensures plans { (self.new.receives ≡ self.old.receives)
+            × (self.new.sends ≡ next_call self.old.sends) × (self.new.twins ≡ self.old.twins) }
+        ensures sends { Sends result (told_of_planned_post self.old) (told_of_planned_post self.new)
+            (datagram address port octets.now) }
     {
         self.socket.hand(address, port, octets);
         if self.sends.fails() {
@@ -261,12 +275,16 @@ impl Datagrams for MemoryDatagrams {
     }
 
     fn twin(&mut self) -> Option<MemoryDatagrams>
-        ensures twin { result ≡ (if is_due self.old.twins then None else Some (planned_post [] [] [] [])) }
+        ensures twin { result
+            ≡ (if is_due self.old.twins then None else Some (planned_post [] [] [] [])) }
         ensures post { self.new.post ≡ self.old.post }
-        ensures plans { (self.new.receives ≡ self.old.receives) × (self.new.sends ≡ self.old.sends) × (self.new.twins ≡ next_call self.old.twins) }
+        ensures plans { (self.new.receives ≡ self.old.receives) × (self.new.sends ≡ self.old.sends)
+            × (self.new.twins ≡ next_call self.old.twins) }
         ensures fresh { IfSome result (λ twin. IsFreshSocket (told_of_planned_post twin)) }
-        ensures port { IfSome result (λ twin. (told_of_planned_post twin).port ≡ (told_of_planned_post self.old).port) }
-        ensures twinned { Twinned (IsNone result) (told_of_planned_post self.old) (told_of_planned_post self.new) }
+        ensures port { IfSome result
+            (λ twin. (told_of_planned_post twin).port ≡ (told_of_planned_post self.old).port) }
+        ensures twinned { Twinned (IsNone result) (told_of_planned_post self.old)
+            (told_of_planned_post self.new) }
     {
         if self.twins.fails() {
             self.faults = self.faults.saturating_add(1);

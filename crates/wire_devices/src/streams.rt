@@ -154,7 +154,8 @@ pub(crate) fn ends_of<R: Copy>(
     stream: TcpStream,
     waker: Option<Waker>,
 ) -> io::Result<(TcpIn, TcpOut<R>)>
-    ensures { IfOk result (λ ends. (ends.0 ≡ record { faults = 0; ends = 0; number = None }) × (ends.1 ≡ 0)) }
+    ensures { IfOk result
+        (λ ends. (ends.0 ≡ record { faults = 0; ends = 0; number = None }) × (ends.1 ≡ 0)) }
 {
     stream.set_nodelay(true)?;
     stream.set_read_timeout(Some(Duration::from_millis(LOOK)))?;

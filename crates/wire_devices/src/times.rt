@@ -41,7 +41,8 @@ impl Clock for MemoryClock {
     ghost readings = { readings_of };
 
     fn now(&mut self) -> u64
-        ensures moment { result ≡ moment_at self.old.moments (unwrap_or self.old.reads (2 ^ 64 - 1)) }
+        ensures moment { result
+            ≡ moment_at self.old.moments (unwrap_or self.old.reads (2 ^ 64 - 1)) }
         ensures moments { self.new.moments ≡ self.old.moments }
         ensures reads { AddsOne self.old.reads self.new.reads }
         ensures readings { Adds (readings_of self.old) (readings_of self.new) (result ∷ []) }

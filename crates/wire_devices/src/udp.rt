@@ -42,7 +42,8 @@ impl Model for UdpDatagrams {
 impl UdpDatagrams {
     /// A socket at this address and port, or why the system opens none. Port 0 is one that the system chooses.
     pub fn bind<R: Net>(net: &R, address: u32, port: u16) -> io::Result<UdpDatagrams>
-        ensures { IfOk result (λ socket. socket ≡ record { port = if port == 0 then None else Some port; faults = 0; row = 0 }) }
+        ensures { IfOk result (λ socket. socket
+            ≡ record { port = if port == 0 then None else Some port; faults = 0; row = 0 }) }
     {
         let socket = UdpSocket::bind(net, (Ipv4Addr::from(address), port))?;
         socket.set_read_timeout(Some(Duration::from_millis(LOOK)))?;

@@ -185,7 +185,8 @@ pub(super) fn set_up<R: Threads + Wait + Copy + Send + 'static>(
     play: Play,
 ) -> Result<Stage<R>, Fail>
     ensures limits { IfOk result (λ stage. InLimits stage.config) }
-    ensures rows { IfOk result (λ stage. (stage.world.auth.row ≡ 0) × (stage.world.acct.row ≡ 0) × (stage.world.dialer.told.row ≡ 0)) }
+    ensures rows { IfOk result (λ stage. (stage.world.auth.row ≡ 0) × (stage.world.acct.row ≡ 0)
+        × (stage.world.dialer.told.row ≡ 0)) }
 {
     let Play {
         host,
