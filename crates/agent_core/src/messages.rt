@@ -159,7 +159,7 @@ impl Ledger {
     }
 
     /// The entry that this message would settle, if it came at this moment.
-    #[tactic(auto, using(crate::proofs::AwaitedLemmas::passes_later))]
+    #[tactic(auto, using(crate::proofs::AnswerLemmas::AwaitedLemmas::passes_later))]
     pub(crate) fn awaited(&self, moment: u64, message: &Message<'_>) -> Option<&Entry>
         requires { IsSteady self.now }
         ensures entry { option_copied result

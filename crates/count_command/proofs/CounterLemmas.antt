@@ -16,8 +16,8 @@ use Rattle.agent_core.specs.Places.{Event, Place, now}
 use Rattle.agent_core.specs.History.{outputs_after, past, place}
 use Rattle.agent_core.specs.Standing.{StandsFor}
 use Rattle.agent_core.specs.Laws.{PastGoesOn}
-use Rattle.agent_core.proofs.LawOfLinks.{input-at}
-use Rattle.agent_core.proofs.LeftOut.{moment-of}
+use Rattle.agent_core.proofs.LawLemmas.LawOfLinks.{input-at}
+use Rattle.agent_core.proofs.LawLemmas.LeftOut.{moment-of}
 use Rattle.transcript_runs.specs.declared.answers.HomeAnswer.{HomeAnswer}
 use Rattle.transcript_runs.specs.Answers.{answered_at}
 use Rattle.transcript_runs.specs.Runs.{Running, Settings, Stage}

@@ -5,7 +5,7 @@ use Rattle.wire_core.specs.Sink.{AppendsPrefix}
 use Rattle.agent_settings.specs.declared.config.Config.{Config}
 use Rattle.session_book.specs.Standing.{BookState, BookStandsFor}
 use Rattle.transcript.specs.Told.{CanFollow, told_by, told_on}
-use Rattle.transcript.proofs.FollowLemmas.{after-append, after-seen, given_by-more}
+use Rattle.transcript.proofs.Reading.FollowLemmas.{after-append, after-seen, given_by-more}
 use Rattle.transcript.specs.declared.line.Line.{Line}
 use Rattle.transcript.specs.declared.line.Line.TheVariants as line
 use Rattle.agent_status.specs.declared.status.Status.{Status}

@@ -9,7 +9,7 @@ use Rattle.printed_lines.specs.EventText.{link_line}
 use Rattle.replay_command.specs.Cuts.{GivesSame}
 use Rattle.transcript.specs.Reading.{read_from, start}
 use Rattle.replay_command.proofs.CutLemmas.{link-lines-cut}
-use Rattle.transcript.proofs.GrammarWordLemmas.{hex-spelled}
+use Rattle.transcript.proofs.Grammar.GrammarWordLemmas.{hex-spelled}
 
 link_line-example : link_line (codes "1100") (codes "0100aB") ≡ codes "1100 link 0100aB"
 link_line-example = refl

@@ -8,8 +8,8 @@ use Rattle.agent_core.specs.History.{place}
 use Rattle.transcript.specs.Reading.{beginning}
 use Rattle.transcript.specs.declared.line.Line.{Line}
 use Rattle.transcript.specs.declared.line.Line.TheVariants as line
-use Rattle.transcript.proofs.CutLemmas as cuts
-use Rattle.transcript.proofs.CutLemmas.{IsNumberless, cut-from}
+use Rattle.transcript.proofs.Streams.CutLemmas as cuts
+use Rattle.transcript.proofs.Streams.CutLemmas.{IsNumberless, cut-from}
 use Rattle.replay_command.specs.Cuts.{LinkLinesCanBeCut, inputs_outputs, line_outputs}
 use Rattle.transcript_runs.specs.Runs.{Running, Settings, Stage, event_at, first_stage, follow, places_after}
 

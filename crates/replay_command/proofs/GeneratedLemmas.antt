@@ -27,10 +27,10 @@ use Rattle.replay_command.specs.GeneratorLaws.{GeneratedLinesAreSound}
 use Rattle.transcript.specs.Reading.{At, Step, read_from, read_line, said_on, start}
 use Rattle.transcript.specs.declared.line.Line.{Line}
 use Rattle.transcript.specs.declared.line.Line.TheVariants as line
-use Rattle.transcript.proofs.GrammarJoinLemmas.{address-spelled, any-lacks}
-use Rattle.transcript.proofs.GrammarWordLemmas.{hex-some, number-spelled}
-use Rattle.transcript.proofs.ReadingLemmas.{StandsBehind, behind_events, event-reads, event_next, hex-behind}
-use Rattle.transcript.proofs.RecordLemmas.{told_as}
+use Rattle.transcript.proofs.Grammar.GrammarJoinLemmas.{address-spelled, any-lacks}
+use Rattle.transcript.proofs.Grammar.GrammarWordLemmas.{hex-some, number-spelled}
+use Rattle.transcript.proofs.Reading.ReadingLemmas.{StandsBehind, behind_events, event-reads, event_next, hex-behind}
+use Rattle.transcript.proofs.Records.RecordLemmas.{told_as}
 
 -- ---- event lines
 

@@ -17,7 +17,7 @@ use Rattle.printed_lines.specs.Text.{end_line, is_drop, is_reply, is_send, outpu
 use Rattle.transcript.specs.Records.{RecordsAreTranscripts, clients_say, lines_with, says_behind, settings_say}
 use Rattle.transcript.specs.declared.line.Line.{Line}
 use Rattle.transcript.specs.declared.line.Line.TheVariants as line
-use Rattle.transcript.proofs.FollowLemmas.{after-append, given_by-append}
+use Rattle.transcript.proofs.Reading.FollowLemmas.{after-append, given_by-append}
 use Rattle.replay_command.specs.Recorded.{RecordsAreReplayed, numbered_lines, told_inputs}
 use Rattle.transcript_runs.specs.Runs.{Running, Settings, Stage, event_at, first_stage, follow, places_in, stage_after}
 use Rattle.replay_command.specs.Run.{end_text, outputs_of, printed_for, printed_for_lines, transcript_text}

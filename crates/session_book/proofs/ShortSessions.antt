@@ -40,10 +40,10 @@ use Rattle.agent_core.specs.Requests.{request_sent, accounting_route}
 use Rattle.agent_core.specs.Rooms.{rooms, refusal}
 use Rattle.agent_core.specs.Places.{Place, Taking, live, serial}
 use Rattle.agent_core.specs.History.{at_input, admitted, requested, datagram, next_numbers}
-use Rattle.agent_core.proofs.VerdictFacts.{verdict-fits}
-use Rattle.agent_core.proofs.JudgedRequests.{judged_at}
-use Rattle.agent_core.proofs.RouteLemmas.{accounting_route_fits}
-use Rattle.agent_core.proofs.PacketFacts.{read_is_packet}
+use Rattle.agent_core.proofs.RequestLemmas.VerdictFacts.{verdict-fits}
+use Rattle.agent_core.proofs.RequestLemmas.JudgedRequests.{judged_at}
+use Rattle.agent_core.proofs.RequestLemmas.RouteLemmas.{accounting_route_fits}
+use Rattle.agent_core.proofs.RequestLemmas.PacketFacts.{read_is_packet}
 use Rattle.session_book.specs.Book.{Keep, Remove}
 use Rattle.session_book.specs.History.{packet_change, recorded, started}
 use Rattle.session_book.specs.Reading.{session_of, session_in, status}

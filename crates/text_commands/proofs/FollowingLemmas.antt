@@ -19,7 +19,7 @@ use Rattle.text_commands.specs.Following.{Takes, place_after, step_place}
 use Rattle.text_commands.specs.Status.{fault_status}
 use Rattle.text_commands.specs.Tasks.{Adds, IsBad, IsTask, Works, WorksNot}
 use Rattle.text_commands.specs.Transcripts.{FollowsLine, IsFailure, LineAdds, Rule, transcript_task}
-use Rattle.transcript.proofs.FollowLemmas.{after-append}
+use Rattle.transcript.proofs.Reading.FollowLemmas.{after-append}
 
 -- ---- reading one more line
 

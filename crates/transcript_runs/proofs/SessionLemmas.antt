@@ -16,7 +16,7 @@ use Rattle.agent_status.specs.declared.status.Status.{Status}
 use Rattle.text_commands.specs.Transcripts.{FollowsLine, IsFailure}
 use Rattle.transcript.specs.declared.line.Line.{Line}
 use Rattle.transcript.specs.declared.line.Line.TheVariants as line
-use Rattle.transcript.proofs.FollowLemmas.{after-append, given_by-more}
+use Rattle.transcript.proofs.Reading.FollowLemmas.{after-append, given_by-more}
 use Rattle.transcript_runs.specs.Runs.{Running, Settings, Stage, Telling, event_at, first_stage, follow, inputs_told, line_told, places_after, rule_of, stage_after}
 use Rattle.transcript_runs.specs.Sessions.{Follows, HasFollowed, IsAt, RunsAt, RunsOn, begun}
 use Rattle.transcript_runs.specs.declared.session.Session.{Session}

@@ -3,7 +3,7 @@ use Rattle.std.proofs.Common.{◌≡◌, List, Some, None, refl}
 use Rattle.transcript.specs.Told.{told_by, told_on}
 use Rattle.transcript.specs.declared.line.Line.{Line}
 use Rattle.transcript.specs.declared.line.Line.TheVariants as line
-use Rattle.transcript.proofs.FollowLemmas.{after-seen}
+use Rattle.transcript.proofs.Reading.FollowLemmas.{after-seen}
 use Rattle.transcript_runs.specs.Runs.{Running, Settings, Stage, first_stage, follow, stage_after, told_of}
 
 -- ---- what was told

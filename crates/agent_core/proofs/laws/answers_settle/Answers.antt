@@ -1,4 +1,4 @@
-use Rattle.agent_core.proofs.LawOfMatches as lemmas
+use Rattle.agent_core.proofs.LawLemmas.LawOfMatches as lemmas
 use Rattle.agent_core.proofs.laws.answers_settle.Goals as goal
 
 pub returns : goal.returns

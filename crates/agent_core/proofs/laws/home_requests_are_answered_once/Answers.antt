@@ -1,4 +1,4 @@
-use Rattle.agent_core.proofs.LawOfAnswers as lemmas
+use Rattle.agent_core.proofs.LawLemmas.LawOfAnswers as lemmas
 use Rattle.agent_core.proofs.laws.home_requests_are_answered_once.Goals as goal
 
 pub returns : goal.returns

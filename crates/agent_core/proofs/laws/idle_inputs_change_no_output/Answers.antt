@@ -1,4 +1,4 @@
-use Rattle.agent_core.proofs.LawOfIdleInputs as lemmas
+use Rattle.agent_core.proofs.LawLemmas.LawOfIdleInputs as lemmas
 use Rattle.agent_core.proofs.laws.idle_inputs_change_no_output.Goals as goal
 
 pub returns : goal.returns

@@ -1,4 +1,4 @@
-use Rattle.agent_core.proofs.LawOfLinks as lemmas
+use Rattle.agent_core.proofs.LawLemmas.LawOfLinks as lemmas
 use Rattle.agent_core.proofs.laws.nothing_is_sent_without_a_link.Goals as goal
 
 pub returns : goal.returns

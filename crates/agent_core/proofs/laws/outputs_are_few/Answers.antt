@@ -1,4 +1,4 @@
-use Rattle.agent_core.proofs.LawOfCounts as lemmas
+use Rattle.agent_core.proofs.LawLemmas.LawOfCounts as lemmas
 use Rattle.agent_core.proofs.laws.outputs_are_few.Goals as goal
 
 pub returns : goal.returns

@@ -1,4 +1,4 @@
-use Rattle.agent_core.proofs.LawOfLinks as lemmas
+use Rattle.agent_core.proofs.LawLemmas.LawOfLinks as lemmas
 use Rattle.agent_core.proofs.laws.requests_go_where_the_link_serves.Goals as goal
 
 pub returns : goal.returns

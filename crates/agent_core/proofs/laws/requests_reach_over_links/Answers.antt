@@ -1,4 +1,4 @@
-use Rattle.agent_core.proofs.LawOfReach as lemmas
+use Rattle.agent_core.proofs.LawLemmas.LawOfReach as lemmas
 use Rattle.agent_core.proofs.laws.requests_reach_over_links.Goals as goal
 
 pub returns : goal.returns

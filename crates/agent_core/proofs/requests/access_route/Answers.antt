@@ -1,8 +1,8 @@
 -- What a State carries is a part of its value, and a fresh session has few octets more than the host.
 use Rattle.std.proofs.Common.{◌≤◌, ◌<◌, ◌^◌, length, ap, sym, arith}
 use Rattle.session_carrier.specs.Carriers.{carried_view}
-use Rattle.agent_core.proofs.Limits.{limits}
-use Rattle.agent_core.proofs.RouteLemmas.{carried_state_fits, named_realm_short}
+use Rattle.agent_core.proofs.RoomLemmas.Limits.{limits}
+use Rattle.agent_core.proofs.RequestLemmas.RouteLemmas.{carried_state_fits, named_realm_short}
 use Rattle.agent_core.proofs.requests.access_route.Goals as goal
 
 pub returns-in-Some-clause-fits : goal.returns-in-Some-clause-fits

@@ -1,6 +1,6 @@
 -- A session that the client names has twice the octets of its Acct-Session-Id, and few more.
 use Rattle.std.proofs.Common.{length, ap, arith}
-use Rattle.agent_core.proofs.RouteLemmas.{accounting_route_fits}
+use Rattle.agent_core.proofs.RequestLemmas.RouteLemmas.{accounting_route_fits}
 use Rattle.agent_core.proofs.requests.accounting_route.Goals as goal
 
 pub returns-clause-fits : goal.returns-clause-fits

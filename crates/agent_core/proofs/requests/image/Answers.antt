@@ -4,7 +4,7 @@ use Rattle.session_carrier.specs.declared.kept.Kind2.{Kind2}
 use Rattle.session_carrier.specs.declared.kept.Kind2.TheVariants.{Eap}
 use Rattle.access_map.proofs.VerdictLemmas.{judged-values}
 use Rattle.agent_core.specs.Verdicts.{IsJudged}
-use Rattle.agent_core.proofs.MessageImages.{has_message, has_record_message, is_record_image}
+use Rattle.agent_core.proofs.ImageLemmas.MessageImages.{has_message, has_record_message, is_record_image}
 use Rattle.agent_core.proofs.requests.image.Goals as goal
 
 pub request-requires-in-Eap-clause-values : goal.request-requires-in-Eap-clause-values

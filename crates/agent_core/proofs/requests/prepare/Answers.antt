@@ -3,7 +3,7 @@ use Rattle.std.proofs.Common.{◌∙◌, ap, arith, length, refl}
 use Rattle.std.proofs.lemmas.Option.{slice_get_within}
 use Rattle.session_carrier.specs.Route.{RouteParts}
 use Rattle.agent_core.specs.Requests as specs
-use Rattle.agent_core.proofs.JudgedRequests.{proxies_are_short}
+use Rattle.agent_core.proofs.RequestLemmas.JudgedRequests.{proxies_are_short}
 use Rattle.agent_core.proofs.requests.prepare.Goals as goal
 
 pub image-requires-clause-route : goal.image-requires-clause-route

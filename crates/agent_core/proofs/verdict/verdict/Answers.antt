@@ -1,6 +1,6 @@
 -- The client that is found stands at its place, and is in limits.
 use Rattle.std.proofs.Common.{sym}
-use Rattle.agent_core.proofs.JudgedRequests.{is_request, port_is}
+use Rattle.agent_core.proofs.RequestLemmas.JudgedRequests.{is_request, port_is}
 use Rattle.agent_core.proofs.verdict.verdict.Goals as goal
 
 pub returns-in-Some-clause-request : goal.returns-in-Some-clause-request

@@ -1,7 +1,7 @@
 use Rattle.std.proofs.Common.{◌≡◌, length, Option, subst, sym, arith, rules, tests}
 use Rattle.text_lines.specs.Reads.{Reads}
 use Rattle.transcript.specs.declared.control.Control.{Control}
-use Rattle.transcript.proofs.ControlLemmas.{control_by_place, not_five}
+use Rattle.transcript.proofs.Reading.ControlLemmas.{control_by_place, not_five}
 use Rattle.transcript.proofs.control.read_control.Goals as goal
 
 pub returns-in_default : goal.returns-in_default

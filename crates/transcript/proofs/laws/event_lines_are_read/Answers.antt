@@ -1,4 +1,4 @@
-use Rattle.transcript.proofs.RecordLemmas.{event-lines-are-read}
+use Rattle.transcript.proofs.Records.RecordLemmas.{event-lines-are-read}
 use Rattle.transcript.proofs.laws.event_lines_are_read.Goals as goal
 
 pub returns : goal.returns

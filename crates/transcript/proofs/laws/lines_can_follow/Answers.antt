@@ -1,4 +1,4 @@
-use Rattle.transcript.proofs.FollowLemmas.{line-follows}
+use Rattle.transcript.proofs.Reading.FollowLemmas.{line-follows}
 use Rattle.transcript.proofs.laws.lines_can_follow.Goals as goal
 
 pub returns : goal.returns

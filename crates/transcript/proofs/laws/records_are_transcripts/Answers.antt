@@ -1,4 +1,4 @@
-use Rattle.transcript.proofs.RecordText.{records-are-transcripts}
+use Rattle.transcript.proofs.Records.RecordText.{records-are-transcripts}
 use Rattle.transcript.proofs.laws.records_are_transcripts.Goals as goal
 
 pub returns : goal.returns

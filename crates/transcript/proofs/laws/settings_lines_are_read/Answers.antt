@@ -1,4 +1,4 @@
-use Rattle.transcript.proofs.SettingsLines.{settings-lines-are-read}
+use Rattle.transcript.proofs.Records.SettingsLines.{settings-lines-are-read}
 use Rattle.transcript.proofs.laws.settings_lines_are_read.Goals as goal
 
 pub returns : goal.returns

@@ -1,5 +1,5 @@
 use Rattle.std.proofs.Common.{sym}
-use Rattle.transcript.proofs.InputLemmas.{given-all, given-more, is-fault, is-wait, shorter}
+use Rattle.transcript.proofs.Streams.InputLemmas.{given-all, given-more, is-fault, is-wait, shorter}
 use Rattle.transcript.proofs.link_stream.give_messages.Goals as goal
 
 pub loop-octets-smaller : goal.loop-octets-smaller

@@ -1,6 +1,6 @@
 use Rattle.std.proofs.Common.{ℕ, List, length}
 use Rattle.diameter_message.specs.Framing.{StandsFor}
-use Rattle.transcript.proofs.InputLemmas.{Given}
+use Rattle.transcript.proofs.Streams.InputLemmas.{Given}
 use Rattle.transcript.proofs.link_stream.give_messages.Given as goal
 
 abbrev pub invariant-loop-octets : goal.invariant-loop-octets

@@ -1,5 +1,5 @@
 use Rattle.std.proofs.lemmas.List.{take_rest}
-use Rattle.transcript.proofs.SettingsLemmas.{by_place, too_few}
+use Rattle.transcript.proofs.Reading.SettingsLemmas.{by_place, too_few}
 use Rattle.transcript.proofs.settings.agent_words.Goals as goal
 
 pub returns-in_default-clause-none : goal.returns-in_default-clause-none

@@ -1,5 +1,5 @@
 use Rattle.std.proofs.Common.{◌≡◌, length, arith, rules, tests}
-use Rattle.transcript.proofs.SettingsLemmas.{client_by_place, not_nine}
+use Rattle.transcript.proofs.Reading.SettingsLemmas.{client_by_place, not_nine}
 use Rattle.transcript.proofs.settings.client_words.Goals as goal
 
 pub returns-in_default-clause-none : goal.returns-in_default-clause-none

@@ -4,9 +4,9 @@ use Rattle.agent_core.specs.declared.ledger.Ledger.{Ledger}
 use Rattle.agent_core.specs.Fits.{KeptFits}
 use Rattle.agent_core.specs.Machine.{at_moment, awaited, awaited_by}
 use Rattle.agent_core.specs.Promise.{IsCore}
-use Rattle.agent_core.proofs.AwaitedLemmas.{awaited-after, client-after}
-use Rattle.agent_core.proofs.Kept.{Laws}
-use Rattle.agent_core.proofs.Promises.{core-lasts, core-steady}
+use Rattle.agent_core.proofs.AnswerLemmas.AwaitedLemmas.{awaited-after, client-after}
+use Rattle.agent_core.proofs.StandingLemmas.Kept.{Laws}
+use Rattle.agent_core.proofs.StandingLemmas.Promises.{core-lasts, core-steady}
 use Rattle.agent_core.proofs.core_step.Core.awaited.Goals as goal
 
 pub awaited-requires : goal.awaited-requires

@@ -1,7 +1,7 @@
 use Rattle.std.proofs.Common.{◌∙◌, ap, length, max}
 use Rattle.pending_table.specs.Table as table
 use Rattle.agent_core.specs.declared.ledger.Ledger.{Ledger}
-use Rattle.agent_core.proofs.Observed.{live-seen}
+use Rattle.agent_core.proofs.StandingLemmas.Observed.{live-seen}
 use Rattle.agent_core.proofs.core_step.Core.live.Goals as goal
 
 pub returns-clause-rule : goal.returns-clause-rule

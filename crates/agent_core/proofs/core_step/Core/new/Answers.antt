@@ -1,5 +1,5 @@
 use Rattle.std.proofs.Common.{◌∙◌, [], rules}
-use Rattle.agent_core.proofs.Histories.{start-stands, start-roomy}
+use Rattle.agent_core.proofs.StandingLemmas.Histories.{start-stands, start-roomy}
 use Rattle.agent_core.proofs.core_step.Core.new.Goals as goal
 
 pub invariant_of-result : goal.invariant_of-result

@@ -1,6 +1,6 @@
 use Rattle.std.proofs.Common.{◌∙◌, ap}
 use Rattle.agent_core.specs.declared.ledger.Ledger.{Ledger}
-use Rattle.agent_core.proofs.Agreeing.{phase-agrees}
+use Rattle.agent_core.proofs.StandingLemmas.Agreeing.{phase-agrees}
 use Rattle.agent_core.proofs.core_step.Core.phase.Goals as goal
 
 pub returns-clause-rule : goal.returns-clause-rule

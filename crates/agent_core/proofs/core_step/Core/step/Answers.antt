@@ -3,9 +3,9 @@ use Rattle.std.proofs.Common.{◌∙◌, sym, subst}
 use Rattle.agent_core.specs.Places.{Event}
 use Rattle.agent_core.specs.Machine.{next}
 use Rattle.agent_core.specs.Promise.{IsCore}
-use Rattle.agent_core.proofs.Few.{few-of}
-use Rattle.agent_core.proofs.Kept.{Laws}
-use Rattle.agent_core.proofs.Promises.{core-steady, core-next, core-after, config-after, answers-of, stands-of}
+use Rattle.agent_core.proofs.RoomLemmas.Few.{few-of}
+use Rattle.agent_core.proofs.StandingLemmas.Kept.{Laws}
+use Rattle.agent_core.proofs.StandingLemmas.Promises.{core-steady, core-next, core-after, config-after, answers-of, stands-of}
 use Rattle.agent_core.proofs.core_step.Core.step.Goals as goal
 
 pub step-requires : goal.step-requires

@@ -4,7 +4,7 @@ use Rattle.session_carrier.specs.declared.kept.Numbers.{Numbers}
 use Rattle.agent_events.specs.declared.events.Output.TheVariants.{Send}
 use Rattle.agent_core.specs.Requests.{request_sent}
 use Rattle.agent_core.specs.Verdicts.{request_with}
-use Rattle.agent_core.proofs.Considered.{takes-it-up}
+use Rattle.agent_core.proofs.RequestLemmas.Considered.{takes-it-up}
 use Rattle.agent_core.proofs.ledger.Ledger.admitted.Goals as goal
 
 pub returns-in_ok-outputs-in-None : goal.returns-in_ok-outputs-in-None

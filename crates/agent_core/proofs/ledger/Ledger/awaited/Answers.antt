@@ -1,7 +1,7 @@
 use Rattle.std.proofs.Common.{sym}
 use Rattle.agent_core.specs.Machine.{at_moment}
-use Rattle.agent_core.proofs.Later.{steady-later}
-use Rattle.agent_core.proofs.Rows.{found-kept}
+use Rattle.agent_core.proofs.StandingLemmas.Later.{steady-later}
+use Rattle.agent_core.proofs.StandingLemmas.Rows.{found-kept}
 use Rattle.agent_core.proofs.ledger.Ledger.awaited.Goals as goal
 
 pub returns-in-Some-clause-kept : goal.returns-in-Some-clause-kept

@@ -4,7 +4,7 @@ use Rattle.std.specs.List.{AllByRecursion}
 use Rattle.pending_table.specs.Table as table
 use Rattle.agent_events.specs.declared.events.Output.{Output}
 use Rattle.agent_core.specs.Standing.{IsWhole}
-use Rattle.agent_core.proofs.Resending.{sends_from, resends-are, sends-few, sends-whole}
+use Rattle.agent_core.proofs.LinkLemmas.Resending.{sends_from, resends-are, sends-few, sends-whole}
 use Rattle.agent_core.proofs.ledger.Ledger.copies.Goals as goal
 
 pub loop-sent-init : goal.loop-sent-init

@@ -3,7 +3,7 @@ use Rattle.std.proofs.Common.{◌≡◌, ◌+◌, ◌≤◌, ◌++◌, length}
 use Rattle.std.specs.List.{AllByRecursion}
 use Rattle.agent_core.specs.Machine.{kept_resends}
 use Rattle.agent_core.specs.Standing.{IsWhole}
-use Rattle.agent_core.proofs.Resending.{sends_from}
+use Rattle.agent_core.proofs.LinkLemmas.Resending.{sends_from}
 use Rattle.agent_core.proofs.ledger.Ledger.copies.Given as goal
 
 abbrev pub invariant-loop-sent : goal.invariant-loop-sent

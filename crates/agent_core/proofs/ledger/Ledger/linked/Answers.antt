@@ -3,8 +3,8 @@ use Rattle.std.proofs.Common.{◌≡◌, true, ◌∙◌, ap}
 use Rattle.session_carrier.specs.declared.kept.Numbers.{Numbers}
 use Rattle.peer_machine.specs.Step.{event_of, message_in}
 use Rattle.agent_core.specs.Machine.{opens_then}
-use Rattle.agent_core.proofs.Spare.{outbox-next}
-use Rattle.agent_core.proofs.Linked.{spoken, spoken-by, opens-is, open-unused, open-outbox, says-open}
+use Rattle.agent_core.proofs.RoomLemmas.Spare.{outbox-next}
+use Rattle.agent_core.proofs.LinkLemmas.Linked.{spoken, spoken-by, opens-is, open-unused, open-outbox, says-open}
 use Rattle.agent_core.proofs.ledger.Ledger.linked.Goals as goal
 
 pub count-requires : goal.count-requires

@@ -2,7 +2,7 @@
 use Rattle.std.proofs.Common.{ℕ, option_map, ap, sym, ◌∙◌}
 use Rattle.pending_table.specs.Table as table
 use Rattle.pending_table.specs.Table.{Row}
-use Rattle.agent_core.proofs.Rows.{found-kept}
+use Rattle.agent_core.proofs.StandingLemmas.Rows.{found-kept}
 use Rattle.agent_core.proofs.ledger.Ledger.matched.Goals as goal
 
 pub answered-requires-clause-kept : goal.answered-requires-clause-kept

@@ -1,6 +1,6 @@
 -- A steady ledger has room for a further request.
 use Rattle.std.proofs.Common.{false, arith}
-use Rattle.agent_core.proofs.Spare.{outbox-next}
+use Rattle.agent_core.proofs.RoomLemmas.Spare.{outbox-next}
 use Rattle.agent_core.proofs.ledger.Ledger.passed.Goals as goal
 
 pub settle-requires-clause-room : goal.settle-requires-clause-room

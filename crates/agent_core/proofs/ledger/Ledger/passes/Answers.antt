@@ -2,7 +2,7 @@
 use Rattle.std.proofs.Common.{sym, ◌∙◌}
 use Rattle.diameter_message.specs.View.{message_view}
 use Rattle.peer_machine.specs.declared.Phase.TheVariants.{Serving, Closing}
-use Rattle.agent_core.proofs.Passing.{passes-in}
+use Rattle.agent_core.proofs.LinkLemmas.Passing.{passes-in}
 use Rattle.agent_core.proofs.ledger.Ledger.passes.Goals as goal
 
 pub returns-in-Serving : goal.returns-in-Serving

@@ -1,7 +1,7 @@
 -- What is steady is so at a later moment.
 use Rattle.std.proofs.Common.{◌≡◌, ℕ, max, sym, subst}
 use Rattle.agent_core.specs.Standing.{IsSteady}
-use Rattle.agent_core.proofs.Later.{steady-later}
+use Rattle.agent_core.proofs.StandingLemmas.Later.{steady-later}
 use Rattle.agent_core.proofs.ledger.Ledger.step.Goals as goal
 
 pub act-requires : goal.act-requires

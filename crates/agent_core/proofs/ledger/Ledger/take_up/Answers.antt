@@ -1,8 +1,8 @@
 -- What isn't refused leaves room in the outbox.
 use Rattle.std.proofs.Common.{◌≤◌, arith}
 use Rattle.agent_core.specs.Machine.{kept_rooms}
-use Rattle.agent_core.proofs.Limits.{limits}
-use Rattle.agent_core.proofs.Refusals.{refusal-none}
+use Rattle.agent_core.proofs.RoomLemmas.Limits.{limits}
+use Rattle.agent_core.proofs.RequestLemmas.Refusals.{refusal-none}
 use Rattle.agent_core.proofs.ledger.Ledger.take_up.Goals as goal
 
 pub overflow_add-self-2 : goal.overflow_add-self-2

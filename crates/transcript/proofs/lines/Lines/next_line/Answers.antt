@@ -2,7 +2,7 @@ use Rattle.std.proofs.Common.{[], ◌∷◌, List, ℕ, false, true, length, ref
 use Rattle.std.proofs.lemmas.List.{append-nil, length-append}
 use Rattle.wire_core.specs.Source.{Consumes}
 use Rattle.text_lines.specs.Streams.{rest_of}
-use Rattle.transcript.proofs.TakingLemmas.{line-answers, raw-none}
+use Rattle.transcript.proofs.Reading.TakingLemmas.{line-answers, raw-none}
 use Rattle.transcript.proofs.lines.Lines.next_line.Goals as goal
 
 pub returns-in-Ok-Line-clause-answers : goal.returns-in-Ok-Line-clause-answers

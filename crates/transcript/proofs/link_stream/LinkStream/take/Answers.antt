@@ -1,6 +1,6 @@
 use Rattle.std.proofs.Common.{◌++◌}
 use Rattle.diameter_message.specs.Framing.{messages_of}
-use Rattle.transcript.proofs.InputLemmas.{cut-after, cut-inputs}
+use Rattle.transcript.proofs.Streams.InputLemmas.{cut-after, cut-inputs}
 use Rattle.transcript.proofs.link_stream.LinkStream.take.Goals as goal
 
 pub returns-clause-inputs : goal.returns-clause-inputs

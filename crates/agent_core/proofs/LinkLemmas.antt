@@ -1,0 +1,12 @@
+pub mod Granting
+pub mod Greets
+pub mod LinkActs
+pub mod LinkKinds
+pub mod LinkPlaces
+pub mod LinkRequests
+pub mod Linked
+pub mod Opened
+pub mod Opening
+pub mod Passing
+pub mod Relinking
+pub mod Resending

@@ -1,0 +1,9 @@
+pub mod Considered
+pub mod JudgedRequests
+pub mod PacketFacts
+pub mod Refusals
+pub mod RouteLemmas
+pub mod StillPlaces
+pub mod TakenPlaces
+pub mod TakenSteps
+pub mod VerdictFacts

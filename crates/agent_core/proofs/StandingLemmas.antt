@@ -1,0 +1,15 @@
+pub mod Agreeing
+pub mod Histories
+pub mod InputSteps
+pub mod Kept
+pub mod KeptPlaces
+pub mod Later
+pub mod NextPlaces
+pub mod Numbers
+pub mod Observed
+pub mod Places
+pub mod Promises
+pub mod Rows
+pub mod Simulation
+pub mod Steady
+pub mod Steps
