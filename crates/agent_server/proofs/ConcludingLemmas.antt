@@ -196,8 +196,22 @@ module _ {C D I O : Type 0} (readings : C → Option (List ℕ)) (told : D → S
       (twins : Twins D) (past : Past I O) (auth_back acct_back : SocketBack C D) (desk : AgentDesk C) (last : DeskEnd C) (trail : Trail C D I O) (status : Status)
       → AllDone readings told hears speaks base dials dials' dials'' starts starts' auth acct k k' end twins past auth_back acct_back
       → Closes base end k' m twins past auth_back acct_back desk last trail status
-      → Served readings told hears speaks base.config base.until base.before auth acct (told auth_back.socket) (told acct_back.socket) dials dials'' starts starts'
-      last.tools.clock trail status
+      → Served readings told hears speaks (record {
+        config = base.config;
+        until = base.until;
+        before = base.before;
+        auth = auth;
+        acct = acct;
+        auth' = told auth_back.socket;
+        acct' = told acct_back.socket;
+        dials = dials;
+        dials' = dials'';
+        starts = starts;
+        starts' = starts';
+        clock = last.tools.clock;
+        trail = trail;
+        status = status;
+      })
   all-served base dials dials' dials'' starts starts' auth acct k k' m end twins past auth_back acct_back desk last trail status done closes =
       let ends = done.ends in
       let a = done.auth_done in
@@ -228,7 +242,7 @@ module _ {C D I O : Type 0} (readings : C → Option (List ℕ)) (told : D → S
       (ap (λ b. b || acct_back.failed) a.reads.fault ∙ ap (λ b. ((told auth_back.socket).row == 16) || b) c.reads.fault)
       (ap (λ (e : DeskEnd C). e.closed) closes.last_is ∙ stands.closed) status_is in
       record {
-        run = stands.run;
+        is_run = stands.run;
         numbered = numbered;
         asks = finals.asks;
         clock_read = subst (λ (e : DeskEnd C). HasRead (readings e.tools.clock) base.before (plain ts)) (sym closes.last_is) stands.clock;

@@ -15,7 +15,7 @@ use Rattle.turnstile.specs.Turns.{plain}
 use Rattle.agent_server.specs.Desks.{HasRead, HasSent, event}
 use Rattle.agent_server.specs.Runs.{entries_recorded}
 use Rattle.agent_server.specs.Server.{Began}
-use Rattle.agent_server.specs.Ran.{IsRecorded, RanFrom}
+use Rattle.agent_server.specs.Ran.{IsRecorded, RanFrom, Run}
 
 some-map : {A : Type 0} (o : Option A) (P Q : A → Type 0) → ((x : A) → P x → Q x) → IfSome o P → IfSome o Q
 some-map None P Q more has = tt
@@ -27,19 +27,17 @@ none-map (Some x) P Q more has = tt
 
 module _ {C D L W I O : Type 0} (readings : C → Option (List ℕ)) (told : D → Socket) (hears : I → Inlet) (speaks : O → Outlet)
     (dials : L → Dials) (made : L → ℕ) (faults started : W → ℕ) where
-  pub ran-with : (begun : List ℕ → Type 0) (config : Config) (until : ℕ) (world world' : World C D L W) (status : Status) (trail : Option (Trail C D I O)) (has has' : List Event → Type 0)
-      → ((events : List Event) → has events → has' events)
-      → RanFrom readings told hears speaks dials made faults started begun config until world world' status trail has
-      → RanFrom readings told hears speaks dials made faults started begun config until world world' status trail has'
-  ran-with begun config until world world' status trail has has' more ran = record {
+  pub ran-with : (begun : List ℕ → Type 0) (run : Run C D L W I O) (has has' : List Event → Type 0) → ((events : List Event) → has events → has' events)
+      → RanFrom readings told hears speaks dials made faults started begun run has → RanFrom readings told hears speaks dials made faults started begun run has'
+  ran-with begun run has has' more ran = record {
     workers = ran.workers;
     links = ran.links;
     ports = ran.ports;
     order = ran.order;
     began = λ before read.
-        none-map trail _ _ (λ began. record { turns = began.turns; run = began.run; clock_read = began.clock_read; of_record = more _ began.of_record }) (ran.began before read);
+        none-map run.trail _ _ (λ began. record { turns = began.turns; run = began.run; clock_read = began.clock_read; of_record = more _ began.of_record }) (ran.began before read);
     served = ran.served;
-    recorded = λ before read. some-map trail _ _ (λ t recorded. more _ recorded) (ran.recorded before read);
+    recorded = λ before read. some-map run.trail _ _ (λ t recorded. more _ recorded) (ran.recorded before read);
     early = ran.early;
   }
 
@@ -58,10 +56,10 @@ module _ {C D L W I O : Type 0} (readings : C → Option (List ℕ)) (told : D �
   events-of config until before now (Some t) has began recorded = (_, recorded)
 
   -- a run has entries, whatever they are
-  pub some-events : (begun : List ℕ → Type 0) (before : List ℕ) → begun before → (config : Config) (until : ℕ) (world world' : World C D L W) (status : Status) (trail : Option (Trail C D I O)) (has : List Event → Type 0)
-      → RanFrom readings told hears speaks dials made faults started begun config until world world' status trail has → (events : List Event) × has events
-  some-events begun before read config until world world' status trail has ran =
-      events-of config until before (readings world'.clock) trail has (ran.began before read) (ran.recorded before read)
+  pub some-events : (begun : List ℕ → Type 0) (before : List ℕ) → begun before → (run : Run C D L W I O) (has : List Event → Type 0)
+      → RanFrom readings told hears speaks dials made faults started begun run has → (events : List Event) × has events
+  some-events begun before read run has ran =
+      events-of run.config run.until before (readings run.world'.clock) run.trail has (ran.began before read) (ran.recorded before read)
 
 -- a sender is there at the end, and of the same queue
 pub sender-there : (start : Sending) (now : Option Sending) (events : List Event) → HasSent (Some start) now events → (s : Sending) × (now ≡ Some s) × (s.queue ≡ start.queue)

@@ -48,7 +48,7 @@ use Rattle.agent_server.specs.Runs.{IsRun, has_left, places_of, entries_recorded
 use Rattle.agent_events.specs.Kinds.{is_leave}
 use Rattle.run_record.specs.Recordings.{Sending}
 use Rattle.agent_server.specs.declared.desk.Tools.{Tools}
-use Rattle.agent_server.specs.Server.{EndsEarly, HasPassed, HasTrail, Holds, Served}
+use Rattle.agent_server.specs.Server.{EndsEarly, HasPassed, HasTrail, Holds, RunTold, Served}
 use Rattle.server_workers.specs.Serving.{IsTick, WasRead}
 use Rattle.server_workers.specs.Serving.Spans.{no_more}
 use Rattle.server_workers.specs.SocketReading.{ReadsSocket}
@@ -488,13 +488,12 @@ pub rose-same : {C : Type 0} (k l : Known (AgentDesk C) Input Heard) (d e : Dial
 rose-same k l d e same rose = subst (λ (ts : List ServerTurn). RoseBy (ticks (of 0 ts)) d.faults e.faults) (sym same) rose
 
 -- the crew's count of refused starts is as it was
-pub served-from : {C D I O : Type 0} (readings : C → Option (List ℕ)) (told : D → Socket) (hears : I → Inlet) (speaks : O → Outlet) (config : Config) (until : ℕ)
-    (before : List ℕ) (auth acct auth' acct' : Socket) (dials dials' : Dials) (starts starts' now : ℕ) (clock : C) (trail : Option (Trail C D I O)) (status : Status)
-    → starts' ≡ starts
-    → IfSome trail (λ t. Served readings told hears speaks config until before auth acct auth' acct' dials dials' starts' now clock t status)
-    → IfSome trail (λ t. Served readings told hears speaks config until before auth acct auth' acct' dials dials' starts now clock t status)
-served-from readings told hears speaks config until before auth acct auth' acct' dials dials' starts starts' now clock trail status same served =
-    subst (λ (n : ℕ). IfSome trail (λ t. Served readings told hears speaks config until before auth acct auth' acct' dials dials' n now clock t status)) same served
+pub served-from : {C D I O : Type 0} (readings : C → Option (List ℕ)) (told : D → Socket) (hears : I → Inlet) (speaks : O → Outlet) (run : Trail C D I O → RunTold C D I O)
+    (starts starts' : ℕ) (trail : Option (Trail C D I O)) → starts' ≡ starts
+    → IfSome trail (λ t. Served readings told hears speaks (record (run t) { starts = starts' }))
+    → IfSome trail (λ t. Served readings told hears speaks (record (run t) { starts = starts }))
+served-from readings told hears speaks run starts starts' trail same served =
+    subst (λ (n : ℕ). IfSome trail (λ t. Served readings told hears speaks (record (run t) { starts = n }))) same served
 
 -- ---- whether there is a trail
 

@@ -139,36 +139,60 @@ module _ {I O : Type 0} (hears : I → Inlet) (speaks : O → Outlet) where
     pub earlier : AllBut WasRead segs
     pub read : status ≢ NoThread → status ≢ OutOfMemory → All WasRead segs
 
+-- What is told of a run whose workers were started: its settings, the moment up to which it served, what its clock had told
+-- before, what its sockets and its dialer told before and after it, the crew's counts of refused starts, the clock, the trail
+-- and the status.
+pub record RunTold (C D I O : Type 0) : Type 0 where
+  pub config : Config
+  pub until : ℕ
+  pub before : List ℕ
+  pub auth : Socket
+  pub acct : Socket
+  pub auth' : Socket
+  pub acct' : Socket
+  pub dials : Dials
+  pub dials' : Dials
+  pub starts : ℕ
+  pub starts' : ℕ
+  pub clock : C
+  pub trail : Trail C D I O
+  pub status : Status
+
+-- all turns of it, without the numbers of those who took them
+abbrev pub turns_of : {C D I O : Type 0} → RunTold C D I O → List RunTurn
+turns_of {C} {D} {I} {O} run = plain run.trail.turns
+
+-- why its links were closed
+abbrev pub closings_of : {C D I O : Type 0} → RunTold C D I O → List LinkCause
+closings_of {C} {D} {I} {O} run = closings (places_of run.config (turns_of run))
+
 module _ {C D I O : Type 0} (readings : C → Option (List ℕ)) (told : D → Socket) (hears : I → Inlet) (speaks : O → Outlet) where
-  -- What a run was whose workers were started: of these settings up to the moment `until`, over a clock that had told these
-  -- readings before. Where 16 receives of a socket or 16 dials in a row failed, the count of its faults rose. The crew's
-  -- count of refused starts was `starts` and is `starts'`.
-  pub record Served (config : Config) (until : ℕ) (before : List ℕ) (auth acct auth' acct' : Socket) (dials dials' : Dials) (starts starts' : ℕ)
-      (clock : C) (trail : Trail C D I O) (status : Status) : Type 0 where
-    pub run : IsRun config until (plain trail.turns)
-    pub numbered : Numbered trail.turns
-    pub asks : All (λ turn. MayTurn auth'.row acct'.row turn.0 turn.1) trail.turns
-    pub clock_read : HasRead (readings clock) before (plain trail.turns)
-    pub entries : trail.entries ≡ min (length (history (plain trail.turns))) (2 ^ 64 - 1)
+  -- What a run was whose workers were started. Where 16 receives of a socket or 16 dials in a row failed, the count of its
+  -- faults rose.
+  pub record Served (run : RunTold C D I O) : Type 0 where
+    pub is_run : IsRun run.config run.until (turns_of run)
+    pub numbered : Numbered run.trail.turns
+    pub asks : All (λ turn. MayTurn run.auth'.row run.acct'.row turn.0 turn.1) run.trail.turns
+    pub clock_read : HasRead (readings run.clock) run.before (turns_of run)
+    pub entries : run.trail.entries ≡ min (length (history (turns_of run))) (2 ^ 64 - 1)
     pub auth_out : ℕ
     pub acct_out : ℕ
     pub out : ℕ
     pub retries : ℕ
-    pub auth_served : ServedSocket Auth (of 1 trail.turns) auth auth' auth_out
-    pub acct_served : ServedSocket Acct (of 2 trail.turns) acct acct' acct_out
-    pub linked : Linked hears speaks config trail.links trail.turns status out retries
-    pub auth_replies : TellsOnly (told trail.auth_twin).handed (replies_by Auth (of 3 trail.turns))
-    pub acct_replies : TellsOnly (told trail.acct_twin).handed (replies_by Acct (of 3 trail.turns))
-    pub lost : trail.lost ≡ min (out + auth_out + acct_out) (2 ^ 64 - 1)
-    pub again : trail.again ≡ min retries (2 ^ 64 - 1)
-    pub dialled : RoseBy (ticks (of 0 trail.turns)) dials.faults dials'.faults
-    pub auth_failed : auth'.row ≡ 16 → Rose auth.faults auth'.faults
-    pub acct_failed : acct'.row ≡ 16 → Rose acct.faults acct'.faults
-    pub dials_failed : dials'.row ≡ 16 → Rose dials.faults dials'.faults
-    pub because : Because status (of 0 trail.turns) (plain trail.turns) (closings (places_of config (plain trail.turns))) auth'.row acct'.row dials'.row (Rose starts starts')
-    pub given : IsGiven status (closings (places_of config (plain trail.turns))) auth'.row acct'.row dials'.row starts starts'
-    pub leaves : 3 < rank status → ((cause : LinkCause) → ¬ AreWorn (closings (places_of config (plain trail.turns))) cause)
-        → LeavesAfterUntil until (plain trail.turns)
+    pub auth_served : ServedSocket Auth (of 1 run.trail.turns) run.auth run.auth' auth_out
+    pub acct_served : ServedSocket Acct (of 2 run.trail.turns) run.acct run.acct' acct_out
+    pub linked : Linked hears speaks run.config run.trail.links run.trail.turns run.status out retries
+    pub auth_replies : TellsOnly (told run.trail.auth_twin).handed (replies_by Auth (of 3 run.trail.turns))
+    pub acct_replies : TellsOnly (told run.trail.acct_twin).handed (replies_by Acct (of 3 run.trail.turns))
+    pub lost : run.trail.lost ≡ min (out + auth_out + acct_out) (2 ^ 64 - 1)
+    pub again : run.trail.again ≡ min retries (2 ^ 64 - 1)
+    pub dialled : RoseBy (ticks (of 0 run.trail.turns)) run.dials.faults run.dials'.faults
+    pub auth_failed : run.auth'.row ≡ 16 → Rose run.auth.faults run.auth'.faults
+    pub acct_failed : run.acct'.row ≡ 16 → Rose run.acct.faults run.acct'.faults
+    pub dials_failed : run.dials'.row ≡ 16 → Rose run.dials.faults run.dials'.faults
+    pub because : Because run.status (of 0 run.trail.turns) (turns_of run) (closings_of run) run.auth'.row run.acct'.row run.dials'.row (Rose run.starts run.starts')
+    pub given : IsGiven run.status (closings_of run) run.auth'.row run.acct'.row run.dials'.row run.starts run.starts'
+    pub leaves : 3 < rank run.status → ((cause : LinkCause) → ¬ AreWorn (closings_of run) cause) → LeavesAfterUntil run.until (turns_of run)
 
 -- the twins of both sockets
 abbrev pub twins_of : {C D I O : Type 0} → Trail C D I O → Twins D

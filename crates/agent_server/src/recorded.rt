@@ -3,7 +3,7 @@
 ghost use Rattle.std.specs.Prelude.{◌≡◌, ◌⊎◌, [], None, if◌then◌else◌};
 ghost use Rattle.agent_settings.specs.Config.{InLimits};
 ghost use Rattle.agent_status.specs.declared.status.Status.TheVariants.{NoThread, OutOfMemory};
-ghost use Rattle.agent_server.specs.Ran.{HasToldOnly, RanRecorded, Unstarted, status_recorded};
+ghost use Rattle.agent_server.specs.Ran.{HasToldOnly, RanRecorded, Unstarted, run_by, status_recorded};
 
 use crate::Worker;
 use crate::server::{Finish, World, serve_sending};
@@ -91,13 +91,11 @@ where
         × ((L.told world.dialer).row ≡ 0) }
     ensures home { result.finish.home ≡ None }
     ensures ran { (base : E.Base) → E.stands writer base []
-        →
-        (Unstarted world result.finish.world result.finish.status result.finish.trail
-        result.record.closed (V.faults recorders.old) (V.faults recorders.new)
+        → (Unstarted (run_by config until world result.finish) result.record.closed
+        (V.faults recorders.old) (V.faults recorders.new)
         × E.stands result.record.writer base [])
         ⊎ RanRecorded E.stands C.readings D.told L.In.told L.Out.told L.told L.made W.faults
-        W.started (HasToldOnly (C.readings world.clock)) config until world result.finish.world
-        result.finish.status result.finish.trail
+        W.started (HasToldOnly (C.readings world.clock)) (run_by config until world result.finish)
         base result.record.writer result.record.closed }
     ensures sound { result.record.closed ≡ None → E.faults result.record.writer ≡ E.faults writer }
 {

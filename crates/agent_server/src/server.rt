@@ -15,7 +15,7 @@ ghost use Rattle.turnstile.specs.Turns.{of, plain};
 ghost use Rattle.agent_server.specs.Desks.{HasSent, StandsBy};
 ghost use Rattle.server_workers.specs.Entries.{ticks};
 ghost use Rattle.server_workers.specs.Running.{Keeps, RoseBy, StartedAs, counted, ports_in, ports_of, InOrder, number_in, numbers_of};
-ghost use Rattle.agent_server.specs.Ran.{HasToldOnly, IsAny, RanFrom};
+ghost use Rattle.agent_server.specs.Ran.{HasToldOnly, IsAny, RanFrom, run_by};
 ghost use Rattle.agent_server.specs.Runs.{entries_recorded};
 ghost use Rattle.agent_server.specs.Server.{EndsEarly, HasTrail, Served, status_given, twins_of};
 ghost use Rattle.agent_server.specs.Starting.{AllDone, BeganFrom, IsPassOf, IsReader, IsReady, StartsFor};
@@ -131,10 +131,22 @@ where
         → dials.faults ≤ (L.told dialer.old).faults
         → StartsFor D.told Auth 1 (known pass) auth team.auth
         → StartsFor D.told Acct 2 (known pass) acct team.acct
-        → IfSome result.trail (λ trail. Served C.readings D.told L.In.told L.Out.told base.config
-        base.until base.before auth acct (D.told result.auth) (D.told result.acct)
-        dials (L.told dialer.new) (W.faults crew.old) (W.faults crew.new) result.tools.clock trail
-        result.status) }
+        → IfSome result.trail (λ trail. Served C.readings D.told L.In.told L.Out.told (record {
+          config = base.config;
+          until = base.until;
+          before = base.before;
+          auth = auth;
+          acct = acct;
+          auth' = D.told result.auth;
+          acct' = D.told result.acct;
+          dials = dials;
+          dials' = L.told dialer.new;
+          starts = W.faults crew.old;
+          starts' = W.faults crew.new;
+          clock = result.tools.clock;
+          trail = trail;
+          status = result.status;
+        })) }
     ensures sent { (base : RunBase) → Carries (StandsBy C.readings) (known pass) base
         → IfSome result.trail (λ trail. HasSent base.sender result.tools.sender
         (entries_recorded base.config (plain trail.turns))) }
@@ -178,9 +190,22 @@ where
         (auth_socket acct_socket : Socket) (k : Known (AgentDesk C) Input Heard)
         → AllDone C.readings D.told I.told O.told base first then last starts now auth_socket
         acct_socket k (known pass) end twins past auth acct
-        → IfSome result.trail (λ trail. Served C.readings D.told I.told O.told base.config
-        base.until base.before auth_socket acct_socket (D.told result.auth) (D.told result.acct)
-        first last starts now result.tools.clock trail result.status) }
+        → IfSome result.trail (λ trail. Served C.readings D.told I.told O.told (record {
+          config = base.config;
+          until = base.until;
+          before = base.before;
+          auth = auth_socket;
+          acct = acct_socket;
+          auth' = D.told result.auth;
+          acct' = D.told result.acct;
+          dials = first;
+          dials' = last;
+          starts = starts;
+          starts' = now;
+          clock = result.tools.clock;
+          trail = trail;
+          status = result.status;
+        })) }
     ensures sent { (base : RunBase) → Carries (StandsBy C.readings) (known pass) base
         → IfSome result.trail (λ trail. HasSent base.sender result.tools.sender
         (entries_recorded base.config (plain trail.turns))) }
@@ -247,10 +272,22 @@ where
     ensures began { (base : RunBase) → Carries (StandsBy C.readings) (known stand.pass) base
         → IfNone result.trail (BeganFrom C.readings base result.tools) }
     ensures served { (base : RunBase) → Carries (StandsBy C.readings) (known stand.pass) base
-        → IfSome result.trail (λ trail. Served C.readings D.told L.In.told L.Out.told base.config
-        base.until base.before (D.told auth) (D.told acct) (D.told result.auth) (D.told result.acct)
-        (L.told dialer.old) (L.told dialer.new) (W.faults crew.old) (W.faults crew.new)
-        result.tools.clock trail result.status) }
+        → IfSome result.trail (λ trail. Served C.readings D.told L.In.told L.Out.told (record {
+          config = base.config;
+          until = base.until;
+          before = base.before;
+          auth = D.told auth;
+          acct = D.told acct;
+          auth' = D.told result.auth;
+          acct' = D.told result.acct;
+          dials = L.told dialer.old;
+          dials' = L.told dialer.new;
+          starts = W.faults crew.old;
+          starts' = W.faults crew.new;
+          clock = result.tools.clock;
+          trail = trail;
+          status = result.status;
+        })) }
     ensures sent { (base : RunBase) → Carries (StandsBy C.readings) (known stand.pass) base
         → IfSome result.trail (λ trail. HasSent base.sender result.tools.sender
         (entries_recorded base.config (plain trail.turns))) }
@@ -327,8 +364,7 @@ where
         × ((L.told world.dialer).row ≡ 0) }
     ensures home { result.0.home ≡ None }
     ensures ran { RanFrom C.readings D.told L.In.told L.Out.told L.told L.made W.faults W.started
-        (HasToldOnly (C.readings world.clock)) config until world result.0.world result.0.status
-        result.0.trail
+        (HasToldOnly (C.readings world.clock)) (run_by config until world result.0)
         (HasSent sender result.1) }
 {
     let World {
@@ -396,8 +432,7 @@ where
         × ((L.told world.dialer).row ≡ 0) }
     ensures home { result.home ≡ None }
     ensures ran { RanFrom C.readings D.told L.In.told L.Out.told L.told L.made W.faults W.started
-        (HasToldOnly (C.readings world.clock)) config until world result.world result.status
-        result.trail IsAny }
+        (HasToldOnly (C.readings world.clock)) (run_by config until world result) IsAny }
 {
     let (finish, _) = serve_sending(rt, alloc, random, config, world, until, None);
     finish

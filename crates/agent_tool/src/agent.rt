@@ -93,9 +93,14 @@ where
     ensures served { (address auth acct peer port millis : ℕ) → command_of_words words.now
         ≡ Some (commands.Run (places.Serve address auth acct peer port) millis)
         → ServesBy C.readings D.told L.In.told L.Out.told L.told L.made W.faults W.started millis
-        (S.left input.old) (S.left input.new)
-        world result.finish.world result.finish.status result.finish.trail (K.written output.old)
-        (K.written output.new) (K.faults output.old) (K.faults output.new) }
+        (record {
+          input = S.left input.old;
+          input' = S.left input.new;
+          output = K.written output.old;
+          output' = K.written output.new;
+          writes = K.faults output.old;
+          writes' = K.faults output.new;
+        }) world result.finish }
     ensures untold { IfNone result.finish.trail ((address auth acct peer port millis : ℕ)
         → command_of_words words.now ≡ Some (commands.Run (places.Serve address auth acct peer port)
         millis) → output.new ≡ output.old) }
@@ -130,11 +135,15 @@ where
           closed = None;
         }))
         ⊎ Recorded C.readings D.told L.In.told L.Out.told L.told L.made W.faults W.started millis
-        (S.left input.old) (S.left input.new)
-        world result.finish.world result.finish.status result.finish.trail
-        (T.written tape.writer.sink) (T.written result.tape.writer.sink) (T.faults tape.writer.sink)
-        (T.faults result.tape.writer.sink)
-        (V.faults tape.crew) (V.faults result.tape.crew) result.closed }
+        (S.left input.old, S.left input.new) world result.finish (record {
+          output = T.written tape.writer.sink;
+          output' = T.written result.tape.writer.sink;
+          writes = T.faults tape.writer.sink;
+          writes' = T.faults result.tape.writer.sink;
+          starts = V.faults tape.crew;
+          starts' = V.faults result.tape.crew;
+          closed = result.closed;
+        }) }
     ensures record_unwritten { is_recorded (command_of_words words.now) ≡ true
         → output.new ≡ output.old }
     ensures record_counts { (address auth acct peer port millis : ℕ) → command_of_words words.now

@@ -34,7 +34,7 @@ another line or seal, 4 where lines are missing at the end.
 KEY is 1 to 64 octets in hex. A yes means that every output in the text is the one that the agent's rule gives for the
 lines before it. Whoever has the key can make a journal, and nothing is claimed of forged seals.
 
-exit statuses: 0 done, 1 other words, 3 a line of the transcript that may not stand where it stands, 4 the input failed,
+exit statuses: 0 done, 1 other words, 3 a line of the transcript that isn't allowed where it is, 4 the input failed,
 5 the output failed, 9 no memory, 12 an input that is too long, 13 no journal, 14 no random octets
 ";
 

@@ -11,14 +11,14 @@ use Rattle.wire_devices.specs.Dialling.{Dials}
 use Rattle.wire_devices.specs.Links.{Inlet, Outlet}
 use Rattle.wire_devices.specs.Sockets.{Socket}
 use Rattle.wire_devices.specs.Telling.{Adds}
-use Rattle.agent_server.specs.declared.trail.Trail.{Trail}
 use Rattle.agent_server.specs.Desks.{AreRead, HasRead}
 use Rattle.server_workers.specs.Entries.{RunTurn}
 use Rattle.agent_server.specs.Server.{Because, EndsEarly}
 use Rattle.text_commands.specs.Tasks.{EndsCounts}
 use Rattle.agent_core.specs.Places.{Event}
+use Rattle.agent_server.specs.declared.server.Finish.{Finish}
 use Rattle.agent_server.specs.declared.server.World.{World}
-use Rattle.agent_server.specs.Ran.{HasToldOnly, RanFrom}
+use Rattle.agent_server.specs.Ran.{HasToldOnly, RanFrom, Run, run_by}
 use Rattle.socket_commands.specs.Serves.{HasToldFirst, IsRunEnd, IsSoundEnd, Reports, after_failure}
 
 pub either : {A B C : Type 0} → (A → C) → (B → C) → A ⊎ B → C
@@ -203,6 +203,10 @@ pub none-maps : {A : Type 0} (o : Option A) (P Q : Type 0) → (P → Q) → IfN
 none-maps None P Q f p = f p
 none-maps (Some x) P Q f p = tt
 
+by-trail : {A : Type 0} (o : Option A) (P : Type 0) (Q : A → Type 0) (R : Type 0) → (P → R) → ((x : A) → Q x → R) → IfNone o P → IfSome o Q → R
+by-trail None P Q R none some p q = none p
+by-trail (Some x) P Q R none some p q = some x q
+
 -- ---- settings
 
 pub boot-limits : (config : Config) (boot : Option ℕ) → InLimits config → InLimits (record config { boot = boot })
@@ -219,11 +223,11 @@ boot-limits config boot limits = record {
 module _ {C D L W I O : Type 0} (readings : C → Option (List ℕ)) (told : D → Socket) (hears : I → Inlet) (speaks : O → Outlet)
     (dials : L → Dials) (made : L → ℕ) (faults started : W → ℕ) where
   -- the clock was read once before the run, of which less is said
-  pub ran-after : (world : World C D L W) (clock : C) (first : ℕ) (config : Config) (until : ℕ) (world' : World C D L W) (status : Status) (trail : Option (Trail C D I O))
+  pub ran-after : (world : World C D L W) (clock : C) (first : ℕ) (config : Config) (until : ℕ) (finish : Finish C D L W I O)
       (has has' : List Event → Type 0) → ((events : List Event) → has events → has' events) → Adds (readings world.clock) (readings clock) (first ∷ [])
-      → RanFrom readings told hears speaks dials made faults started (HasToldOnly (readings clock)) config until (record world { clock = clock }) world' status trail has
-      → RanFrom readings told hears speaks dials made faults started (HasToldFirst (readings world.clock) first) config until world world' status trail has'
-  ran-after world clock first config until world' status trail has has' more adds ran =
+      → RanFrom readings told hears speaks dials made faults started (HasToldOnly (readings clock)) (run_by config until (record world { clock = clock }) finish) has
+      → RanFrom readings told hears speaks dials made faults started (HasToldFirst (readings world.clock) first) (run_by config until world finish) has'
+  ran-after world clock first config until finish has has' more adds ran =
       let later : (all : List ℕ) → HasToldFirst (readings world.clock) first all → HasRead (readings clock) all [] =
       λ all (before, read, is). subst (λ b. HasRead (readings clock) b []) (sym is) (has-read-first (readings world.clock) (readings clock) before first read adds) in
       record {
@@ -232,31 +236,31 @@ module _ {C D L W I O : Type 0} (readings : C → Option (List ℕ)) (told : D �
         ports = ran.ports;
         order = ran.order;
         began = λ all begun.
-            none-maps trail _ _ (λ b. record { turns = b.turns; run = b.run; clock_read = b.clock_read; of_record = more _ b.of_record }) (ran.began all (later all begun));
+            none-maps finish.trail _ _ (λ b. record { turns = b.turns; run = b.run; clock_read = b.clock_read; of_record = more _ b.of_record }) (ran.began all (later all begun));
         served = λ all begun. ran.served all (later all begun);
-        recorded = λ all begun. some-maps trail _ _ (λ t recorded. more _ recorded) (ran.recorded all (later all begun));
+        recorded = λ all begun. some-maps finish.trail _ _ (λ t recorded. more _ recorded) (ran.recorded all (later all begun));
         early = λ all begun. ran.early all (later all begun);
       }
 
   -- ---- how such a run ended
 
-  pub ran-known : (begun : List ℕ → Type 0) (config : Config) (until : ℕ) (world world' : World C D L W) (status : Status) (trail : Option (Trail C D I O)) (has : List Event → Type 0)
-      (before : List ℕ) → begun before → RanFrom readings told hears speaks dials made faults started begun config until world world' status trail has → IsRunEnd status
-  ran-known begun config until world world' status None has before is ran = early-known status _ _ _ _ _ _ (ran.early before is)
-  ran-known begun config until world world' status (Some t) has before is ran = end-known status _ _ _ _ _ _ _ (ran.served before is).because
+  pub ran-known : (begun : List ℕ → Type 0) (run : Run C D L W I O) (has : List Event → Type 0) (before : List ℕ) → begun before
+      → RanFrom readings told hears speaks dials made faults started begun run has → IsRunEnd run.status
+  ran-known begun run has before is ran = by-trail run.trail _ _ (IsRunEnd run.status)
+      (λ early. early-known run.status _ _ _ _ _ _ early)
+      (λ t served. end-known run.status _ _ _ _ _ _ _ served.because) (ran.early before is) (ran.served before is)
 
-  pub ran-writes : (begun : List ℕ → Type 0) (config : Config) (until : ℕ) (world world' : World C D L W) (status : Status) (trail : Option (Trail C D I O)) (has : List Event → Type 0)
-      (before : List ℕ) → begun before → RanFrom readings told hears speaks dials made faults started begun config until world world' status trail has → status ≡ WriteFault → ⊥
-  ran-writes begun config until world world' status None has before is ran = early-writes status _ _ _ _ _ _ (ran.early before is)
-  ran-writes begun config until world world' status (Some t) has before is ran = end-writes status _ _ _ _ _ _ _ (ran.served before is).because
+  pub ran-writes : (begun : List ℕ → Type 0) (run : Run C D L W I O) (has : List Event → Type 0) (before : List ℕ) → begun before
+      → RanFrom readings told hears speaks dials made faults started begun run has → run.status ≡ WriteFault → ⊥
+  ran-writes begun run has before is ran same = by-trail run.trail _ _ ⊥
+      (λ early. early-writes run.status _ _ _ _ _ _ early same)
+      (λ t served. end-writes run.status _ _ _ _ _ _ _ served.because same) (ran.early before is) (ran.served before is)
 
-  pub ran-sound : (begun : List ℕ → Type 0) (config : Config) (until : ℕ) (world world' : World C D L W) (status : Status) (trail : Option (Trail C D I O)) (has : List Event → Type 0)
-      (before : List ℕ) → begun before → RanFrom readings told hears speaks dials made faults started begun config until world world' status trail has
-      → (Rose (told world.auth).faults (told world'.auth).faults → ⊥) → (Rose (told world.acct).faults (told world'.acct).faults → ⊥)
-      → (Rose (dials world.dialer).faults (dials world'.dialer).faults → ⊥) → (Rose (faults world.crew) (faults world'.crew) → ⊥) → IsSoundEnd status
-  ran-sound begun config until world world' status None has before is ran auths accts links threads =
-      early-sound status _ _ _ _ _ _ (ran.early before is) links (λ twin. either auths accts twin) threads
-  ran-sound begun config until world world' status (Some t) has before is ran auths accts links threads =
-      let served = ran.served before is in
-      end-sound status _ _ _ _ _ _ _ served.because (λ row. links (served.dials_failed row))
-      (λ s. either (λ row. auths (served.auth_failed row)) (λ row. accts (served.acct_failed row)) s) threads
+  pub ran-sound : (begun : List ℕ → Type 0) (run : Run C D L W I O) (has : List Event → Type 0) (before : List ℕ) → begun before
+      → RanFrom readings told hears speaks dials made faults started begun run has
+      → (Rose (told run.world.auth).faults (told run.world'.auth).faults → ⊥) → (Rose (told run.world.acct).faults (told run.world'.acct).faults → ⊥)
+      → (Rose (dials run.world.dialer).faults (dials run.world'.dialer).faults → ⊥) → (Rose (faults run.world.crew) (faults run.world'.crew) → ⊥) → IsSoundEnd run.status
+  ran-sound begun run has before is ran auths accts links threads = by-trail run.trail _ _ (IsSoundEnd run.status)
+      (λ early. early-sound run.status _ _ _ _ _ _ early links (λ twin. either auths accts twin) threads)
+      (λ t served. end-sound run.status _ _ _ _ _ _ _ served.because (λ row. links (served.dials_failed row))
+      (λ s. either (λ row. auths (served.auth_failed row)) (λ row. accts (served.acct_failed row)) s) threads) (ran.early before is) (ran.served before is)

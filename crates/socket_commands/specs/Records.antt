@@ -11,8 +11,8 @@ use Rattle.wire_devices.specs.Sockets.{Socket}
 use Rattle.agent_core.specs.Places.{Event}
 use Rattle.printed_lines.specs.SettingsText.{settings_text}
 use Rattle.transcript.specs.Records.{record_text}
+use Rattle.agent_server.specs.declared.server.Finish.{Finish}
 use Rattle.agent_server.specs.declared.server.World.{World}
-use Rattle.agent_server.specs.declared.trail.Trail.{Trail}
 use Rattle.agent_server.specs.Ran.{status_recorded}
 use Rattle.text_commands.specs.SettingsInput.{SettingsTaken}
 use Rattle.socket_commands.specs.Serves.{RanFor, with_boot}
@@ -26,32 +26,45 @@ pub record IsRecordText (config : Config) (before now : Option (List ℕ)) (clos
   pub begins : AppendsPrefix before now (text_recorded config events)
   pub whole : closed ≡ None → Appends before now (text_recorded config events)
 
+-- What a tape tells before a run and after it: what was written to it, how many of its writes failed and how many starts of
+-- its thread were refused. Where its record is short, the moment of the first entry that wasn't written.
+pub record TapeTold : Type 0 where
+  pub output : Option (List ℕ)
+  pub output' : Option (List ℕ)
+  pub writes : ℕ
+  pub writes' : ℕ
+  pub starts : ℕ
+  pub starts' : ℕ
+  pub closed : Option ℕ
+
 -- the world is as it was, but for its clock
 abbrev pub IsAsItWas : {C D L W : Type 0} → World C D L W → World C D L W → Type 0
 IsAsItWas world world' = world' ≡ record { clock = world'.clock; auth = world.auth; acct = world.acct; dialer = world.dialer; crew = world.crew }
 
 -- no run began: the settings couldn't be written, or the thread that writes couldn't be started
-pub record RecordNot {C D L W T : Type 0} (config : Config) (world world' : World C D L W) (status : Status) (trail : Option T) (before now : Option (List ℕ)) (closed : Option ℕ)
-    (writes writes' starts starts' : ℕ) : Type 0 where
+pub record RecordNot {C D L W I O : Type 0} (config : Config) (world : World C D L W) (finish : Finish C D L W I O) (tape : TapeTold) : Type 0 where
   pub first : ℕ
-  pub same : IsAsItWas world world'
-  pub none : trail ≡ None
-  pub unclosed : closed ≡ None
-  pub because : ((status ≡ WriteFault) × Rose writes writes') ⊎ ((status ≡ OutOfMemory) ⊎ ((status ≡ NoThread) × Rose starts starts'))
-  pub wrote : AppendsPrefix before now (settings_text (with_boot first config))
+  pub same : IsAsItWas world finish.world
+  pub none : finish.trail ≡ None
+  pub unclosed : tape.closed ≡ None
+  pub because : ((finish.status ≡ WriteFault) × Rose tape.writes tape.writes') ⊎ ((finish.status ≡ OutOfMemory) ⊎ ((finish.status ≡ NoThread) × Rose tape.starts tape.starts'))
+  pub wrote : AppendsPrefix tape.output tape.output' (settings_text (with_boot first config))
 
 module _ {C D L W I O : Type 0} (readings : C → Option (List ℕ)) (told : D → Socket) (hears : I → Inlet) (speaks : O → Outlet)
     (dials : L → Dials) (made : L → ℕ) (faults started : W → ℕ) where
   -- The server ran by these settings, as it does without a record, and the record of the run was written.
-  pub record RecordRan (config : Config) (millis : ℕ) (world world' : World C D L W) (status : Status) (trail : Option (Trail C D I O))
-      (before now : Option (List ℕ)) (closed : Option ℕ) : Type 0 where
+  pub record RecordRan (config : Config) (millis : ℕ) (world : World C D L W) (finish : Finish C D L W I O) (tape : TapeTold) : Type 0 where
     pub end : Status
-    pub given : status ≡ status_recorded end closed
-    pub run : RanFor readings told hears speaks dials made faults started config millis world world' end trail (λ first. IsRecordText (with_boot first config) before now closed)
+    pub given : finish.status ≡ status_recorded end tape.closed
+    pub run : RanFor readings told hears speaks dials made faults started config millis world (record finish { status = end })
+        (λ first. IsRecordText (with_boot first config) tape.output tape.output' tape.closed)
 
-  -- the same by the settings of the input
-  pub record Recorded (millis : ℕ) (input left : Option (List ℕ)) (world world' : World C D L W) (status : Status) (trail : Option (Trail C D I O))
-      (before now : Option (List ℕ)) (writes writes' starts starts' : ℕ) (closed : Option ℕ) : Type 0 where
+  -- the server ran, or no run began
+  abbrev pub RecordsBy : Config → ℕ → World C D L W → Finish C D L W I O → TapeTold → Type 0
+  RecordsBy config millis world finish tape = RecordNot config world finish tape ⊎ RecordRan config millis world finish tape
+
+  -- the same by the settings of the input, of which so much was left before and after it
+  pub record Recorded (millis : ℕ) (input : Option (List ℕ) × Option (List ℕ)) (world : World C D L W) (finish : Finish C D L W I O) (tape : TapeTold) : Type 0 where
     pub config : Config
-    pub settings : SettingsTaken config input left
-    pub recorded : RecordNot config world world' status trail before now closed writes writes' starts starts' ⊎ RecordRan config millis world world' status trail before now closed
+    pub settings : SettingsTaken config input.0 input.1
+    pub recorded : RecordsBy config millis world finish tape

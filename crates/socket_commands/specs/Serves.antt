@@ -9,11 +9,11 @@ use Rattle.agent_status.specs.declared.status.Status.TheVariants.{Done, Usage, B
 use Rattle.wire_devices.specs.Dialling.{Dials}
 use Rattle.wire_devices.specs.Links.{Inlet, Outlet}
 use Rattle.wire_devices.specs.Sockets.{Socket}
-use Rattle.agent_server.specs.declared.trail.Trail.{Trail}
 use Rattle.agent_core.specs.Places.{Event}
+use Rattle.agent_server.specs.declared.server.Finish.{Finish}
 use Rattle.agent_server.specs.declared.server.World.{World}
 use Rattle.agent_server.specs.Desks.{HasRead}
-use Rattle.agent_server.specs.Ran.{IsAny, RanFrom}
+use Rattle.agent_server.specs.Ran.{IsAny, RanFrom, run_by}
 use Rattle.agent_server.specs.Server.{rank}
 use Rattle.text_commands.specs.SettingsInput.{SettingsNot, SettingsTaken}
 use Rattle.peer_runs.specs.Until.{until_of}
@@ -47,30 +47,40 @@ Reports end status line before now faults faults' =
 abbrev pub HasToldFirst : Option (List ℕ) → ℕ → List ℕ → Type 0
 HasToldFirst told first readings = (before : List ℕ) × HasRead told before [] × (readings ≡ before ++ first ∷ [])
 
+-- what an input and an output tell before a run and after it: what is left of the input, what was written to the output, and
+-- how many of its writes failed
+pub record StreamsTold : Type 0 where
+  pub input : Option (List ℕ)
+  pub input' : Option (List ℕ)
+  pub output : Option (List ℕ)
+  pub output' : Option (List ℕ)
+  pub writes : ℕ
+  pub writes' : ℕ
+
 module _ {C D L W I O : Type 0} (readings : C → Option (List ℕ)) (told : D → Socket) (hears : I → Inlet) (speaks : O → Outlet)
     (dials : L → Dials) (made : L → ℕ) (faults started : W → ℕ) where
   -- The server ran by these settings up to so long after the clock's first reading. `has` is what holds then of the entries
   -- that a record of the run has.
-  pub record RanFor (config : Config) (millis : ℕ) (world world' : World C D L W) (end : Status) (trail : Option (Trail C D I O)) (has : ℕ → List Event → Type 0) : Type 0 where
+  pub record RanFor (config : Config) (millis : ℕ) (world : World C D L W) (finish : Finish C D L W I O) (has : ℕ → List Event → Type 0) : Type 0 where
     pub first : ℕ
-    pub ran : RanFrom readings told hears speaks dials made faults started (HasToldFirst (readings world.clock) first) (with_boot first config) (until_of first millis)
-        world world' end trail (has first)
+    pub ran : RanFrom readings told hears speaks dials made faults started (HasToldFirst (readings world.clock) first)
+        (run_by (with_boot first config) (until_of first millis) world finish) (has first)
 
   -- Settings were read from the input, and the server ran by them. Where its workers were started the line that tells of it
   -- was written.
-  pub record RanServer (millis : ℕ) (input left : Option (List ℕ)) (world world' : World C D L W) (status : Status) (trail : Option (Trail C D I O))
-      (written written' : Option (List ℕ)) (writes writes' : ℕ) : Type 0 where
+  pub record RanServer (millis : ℕ) (streams : StreamsTold) (world : World C D L W) (finish : Finish C D L W I O) : Type 0 where
     pub config : Config
-    pub settings : SettingsTaken config input left
+    pub settings : SettingsTaken config streams.input streams.input'
     pub end : Status
-    pub run : RanFor config millis world world' end trail (λ first. IsAny)
-    pub reported : IfSome trail (λ t. Reports end status (served_line t.entries t.lost) written written' writes writes')
-    pub unreported : IfNone trail (status ≡ end)
+    pub run : RanFor config millis world (record finish { status = end }) (λ first. IsAny)
+    pub reported : IfSome finish.trail
+        (λ t. Reports end finish.status (served_line t.entries t.lost) streams.output streams.output' streams.writes streams.writes')
+    pub unreported : IfNone finish.trail (finish.status ≡ end)
 
   -- the settings of the input could be read and the server ran, or they couldn't and nothing was done
-  abbrev pub ServesBy : ℕ → Option (List ℕ) → Option (List ℕ) → World C D L W → World C D L W → Status → Option (Trail C D I O) → Option (List ℕ) → Option (List ℕ) → ℕ → ℕ → Type 0
-  ServesBy millis input left world world' status trail written written' writes writes' =
-      (SettingsNot status input left × (world' ≡ world) × (trail ≡ None)) ⊎ RanServer millis input left world world' status trail written written' writes writes'
+  abbrev pub ServesBy : ℕ → StreamsTold → World C D L W → Finish C D L W I O → Type 0
+  ServesBy millis streams world finish =
+      (SettingsNot finish.status streams.input streams.input' × (finish.world ≡ world) × (finish.trail ≡ None)) ⊎ RanServer millis streams world finish
 
 -- how a run ends that began
 abbrev pub IsRunEnd : Status → Type 0

@@ -8,7 +8,7 @@ ghost use Rattle.agent_config.specs.Settings.{settings_in};
 ghost use Rattle.text_commands.specs.SettingsInput.{SettingsNot};
 ghost use Rattle.text_commands.specs.Tasks.{EndsCounts};
 ghost use Rattle.text_commands.specs.WholeInput.{most_whole};
-ghost use Rattle.socket_commands.specs.Records.{RecordNot, RecordRan, Recorded};
+ghost use Rattle.socket_commands.specs.Records.{Recorded, RecordsBy};
 ghost use Rattle.socket_commands.specs.Serves.{IsRunEnd, IsSoundEnd};
 
 use crate::serving::{booted, idle};
@@ -80,14 +80,16 @@ where
         × ((L.told world.dialer).row ≡ 0) }
     requires sound { tape.writer.faults ≡ 0 }
     ensures home { result.finish.home ≡ None }
-    ensures recorded { RecordNot config world result.finish.world result.finish.status
-        result.finish.trail (T.written tape.writer.sink) (T.written result.tape.writer.sink)
-        result.closed
-        (T.faults tape.writer.sink) (T.faults result.tape.writer.sink) (V.faults tape.crew)
-        (V.faults result.tape.crew)
-        ⊎ RecordRan C.readings D.told L.In.told L.Out.told L.told L.made W.faults W.started config
-        millis world result.finish.world result.finish.status result.finish.trail
-        (T.written tape.writer.sink) (T.written result.tape.writer.sink) result.closed }
+    ensures recorded { RecordsBy C.readings D.told L.In.told L.Out.told L.told L.made W.faults
+        W.started config millis world result.finish (record {
+          output = T.written tape.writer.sink;
+          output' = T.written result.tape.writer.sink;
+          writes = T.faults tape.writer.sink;
+          writes' = T.faults result.tape.writer.sink;
+          starts = V.faults tape.crew;
+          starts' = V.faults result.tape.crew;
+          closed = result.closed;
+        }) }
     ensures ends { IsRunEnd result.finish.status }
     ensures wrote { result.closed ≡ None → result.finish.status ≡ Status.WriteFault
         → Rose (T.faults tape.writer.sink) (T.faults result.tape.writer.sink) }
@@ -192,11 +194,15 @@ where
           closed = None;
         }))
         ⊎ Recorded C.readings D.told L.In.told L.Out.told L.told L.made W.faults W.started millis
-        (S.left input.old) (S.left input.new)
-        world result.finish.world result.finish.status result.finish.trail
-        (T.written tape.writer.sink) (T.written result.tape.writer.sink) (T.faults tape.writer.sink)
-        (T.faults result.tape.writer.sink)
-        (V.faults tape.crew) (V.faults result.tape.crew) result.closed }
+        (S.left input.old, S.left input.new) world result.finish (record {
+          output = T.written tape.writer.sink;
+          output' = T.written result.tape.writer.sink;
+          writes = T.faults tape.writer.sink;
+          writes' = T.faults result.tape.writer.sink;
+          starts = V.faults tape.crew;
+          starts' = V.faults result.tape.crew;
+          closed = result.closed;
+        }) }
     ensures counts { result.closed ≡ None → EndsCounts result.finish.status (S.ends input.old)
         (S.ends input.new) (S.faults input.old) (S.faults input.new)
         (T.faults tape.writer.sink) (T.faults result.tape.writer.sink) }

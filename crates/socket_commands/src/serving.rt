@@ -100,7 +100,7 @@ where
         × ((L.told world.dialer).row ≡ 0) }
     ensures home { result.home ≡ None }
     ensures ran { (end : Status) × RanFor C.readings D.told L.In.told L.Out.told L.told L.made
-        W.faults W.started config millis world result.world end result.trail (λ first. IsAny)
+        W.faults W.started config millis world (record result { status = end }) (λ first. IsAny)
         × IfSome result.trail (λ t. Reports end result.status (served_line t.entries t.lost)
         (K.written output.old) (K.written output.new) (K.faults output.old) (K.faults output.new))
         × IfNone result.trail (result.status ≡ end) }
@@ -180,9 +180,14 @@ where
     ensures begun { result.status ≢ Status.Usage }
     ensures home { result.home ≡ None }
     ensures served { ServesBy C.readings D.told L.In.told L.Out.told L.told L.made W.faults
-        W.started millis (S.left input.old) (S.left input.new)
-        world result.world result.status result.trail (K.written output.old) (K.written output.new)
-        (K.faults output.old) (K.faults output.new) }
+        W.started millis (record {
+          input = S.left input.old;
+          input' = S.left input.new;
+          output = K.written output.old;
+          output' = K.written output.new;
+          writes = K.faults output.old;
+          writes' = K.faults output.new;
+        }) world result }
     ensures unwritten { IfNone result.trail (output.new ≡ output.old) }
     ensures counts { EndsCounts result.status (S.ends input.old) (S.ends input.new)
         (S.faults input.old) (S.faults input.new)

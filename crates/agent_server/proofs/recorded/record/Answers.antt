@@ -7,7 +7,7 @@ pub unreachable-requires : goal.unreachable-requires
 unreachable-requires g c =
     let (before, read) = readings-before (g.C.Clock.readings c.args.world.clock) in
     let (events, has) = some-events g.C.Clock.readings g.D.Datagrams.told g.L.In.LinkIn.told g.L.Out.LinkOut.told g.L.Dialer.told g.L.Dialer.made g.W.Crew.faults g.W.Crew.started
-    _ before read c.args.config c.args.until c.args.world _ _ _ _ c.serve_sending-finish.ensures.ran in
+    _ before read _ _ c.serve_sending-finish.ensures.ran in
     let (s, is, queue) = sender-there c.in-Ok.ends.0 c.serve_sending-finish.result.1 events has in
     c.in_default.not-Some s is
 
@@ -15,7 +15,7 @@ pub finish_recording-record-requires-after_bounds : goal.finish_recording-record
 finish_recording-record-requires-after_bounds g c κs within =
     let (before, read) = readings-before (g.C.Clock.readings c.args.world.clock) in
     let (events, has) = some-events g.C.Clock.readings g.D.Datagrams.told g.L.In.LinkIn.told g.L.Out.LinkOut.told g.L.Dialer.told g.L.Dialer.made g.W.Crew.faults g.W.Crew.started
-    _ before read c.args.config c.args.until c.args.world _ _ _ _ c.serve_sending-finish.ensures.ran in
+    _ before read _ _ c.serve_sending-finish.ensures.ran in
     let queue = same-queue c.in-Ok.ends.0 c.in-Some.sender c.serve_sending-finish.result.1 events c.in-Some.is has in
     subst (λ q. IsRecorderOf q c.in-Ok.ends.1) (sym queue) c.in-Ok.ensures.one_queue
 
@@ -28,7 +28,7 @@ returns-clause-ran g c = λ base stood.
       end = c.serve_sending-finish.result.0.status;
       given = c.status_of.ensures;
       ran = ran-with g.C.Clock.readings g.D.Datagrams.told g.L.In.LinkIn.told g.L.Out.LinkOut.told g.L.Dialer.told g.L.Dialer.made g.W.Crew.faults g.W.Crew.started
-          _ c.args.config c.args.until c.args.world _ _ _ _ _
+          _ _ _ _
           (recorded-by stands c.in-Ok.ends.0 c.in-Some.sender c.serve_sending-finish.result.1 base written.result.writer written.result.closed
           c.in-Ok.ensures.told c.in-Some.is (written.ensures.wrote base begun))
           c.serve_sending-finish.ensures.ran;

@@ -53,10 +53,23 @@ returns-in-Ok-start_workers-clause-served g c = λ base carries.
     let started = c.in-Ok-start_workers.ensures in
     let team = c.in-Ok-start_workers.team in
     let turnstile = arc_value c.args.stand.turnstile in
-    served-from g.C.Clock.readings told g.L.In.LinkIn.told g.L.Out.LinkOut.told base.config base.until base.before
-    (told c.args.auth) (told c.args.acct) (told c.lead.result.auth) (told c.lead.result.acct)
-    (g.L.Dialer.told c.args.dialer.now) (g.L.Dialer.told c.lead.new.dialer) (g.W.Crew.faults c.args.crew.now) (g.W.Crew.faults c.start_workers.new.crew)
-    (g.W.Crew.faults c.lead.new.crew) c.lead.result.tools.clock c.lead.result.trail c.lead.result.status started.unrefused
+    served-from g.C.Clock.readings told g.L.In.LinkIn.told g.L.Out.LinkOut.told (λ trail. record {
+      config = base.config;
+      until = base.until;
+      before = base.before;
+      auth = told c.args.auth;
+      acct = told c.args.acct;
+      auth' = told c.lead.result.auth;
+      acct' = told c.lead.result.acct;
+      dials = g.L.Dialer.told c.args.dialer.now;
+      dials' = g.L.Dialer.told c.lead.new.dialer;
+      starts = 0;
+      starts' = g.W.Crew.faults c.lead.new.crew;
+      clock = c.lead.result.tools.clock;
+      trail = trail;
+      status = c.lead.result.status;
+    })
+    (g.W.Crew.faults c.args.crew.now) (g.W.Crew.faults c.start_workers.new.crew) c.lead.result.trail started.unrefused
     (c.lead.ensures.served base (g.L.Dialer.told c.args.dialer.now) (told c.args.auth) (told c.args.acct)
     (carries-same g.C.Clock.readings (known c.args.stand.pass) l base (started.same.1 ∙ c.first_link.ensures.same.0) carries)
     (rose-same k l (g.L.Dialer.told c.args.dialer.now) (g.L.Dialer.told c.first_link.new.dialer) started.same.0 opened.dialled)

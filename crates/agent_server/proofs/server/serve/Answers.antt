@@ -4,4 +4,4 @@ use Rattle.agent_server.proofs.server.serve.Goals as goal
 pub returns-clause-ran : goal.returns-clause-ran
 returns-clause-ran g c =
     ran-with g.C.Clock.readings g.D.Datagrams.told g.L.In.LinkIn.told g.L.Out.LinkOut.told g.L.Dialer.told g.L.Dialer.made g.W.Crew.faults g.W.Crew.started
-    _ c.args.config c.args.until c.args.world _ _ _ _ _ (λ events has. tt) c.serve_sending-finish.ensures.ran
+    _ _ _ _ (λ events has. tt) c.serve_sending-finish.ensures.ran

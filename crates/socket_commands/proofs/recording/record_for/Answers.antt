@@ -31,7 +31,7 @@ returns-clause-recorded g c =
         run = record {
           first = c.now-first.result;
           ran = ran-after g.C.Clock.readings g.D.Datagrams.told g.L.In.LinkIn.told g.L.Out.LinkOut.told g.L.Dialer.told g.L.Dialer.made g.W.Crew.faults g.W.Crew.started
-              c.args.world c.now-first.new.self c.now-first.result settings _ _ _ _ _ (IsRecordText settings (written c.args.tape.writer.sink) (written after.writer.sink) after.closed)
+              c.args.world c.now-first.new.self c.now-first.result settings _ (record c.record-finish.result.finish { status = ran.end }) _ (IsRecordText settings (written c.args.tape.writer.sink) (written after.writer.sink) after.closed)
               (is-text written settings (written c.args.tape.writer.sink) base after.writer after.closed head (λ still. c.record-finish.ensures.sound still ∙ none)) c.now-first.ensures
               (rw (c.saturating_add-until.ensures, c.booted-config.ensures.exact) at ran.ran);
         };
@@ -60,7 +60,7 @@ returns-clause-ends g c =
       | inl (not, stood) ↦ unstarted-known _ _ _ not.because
       | inr ran ↦ recorded-known _ _ _ ran.given
           (ran-known g.C.Clock.readings g.D.Datagrams.told g.L.In.LinkIn.told g.L.Out.LinkOut.told g.L.Dialer.told g.L.Dialer.made g.W.Crew.faults g.W.Crew.started
-          _ _ _ _ _ ran.end _ _ before read ran.ran)
+          _ _ _ before read ran.ran)
     ]
 
 pub returns-clause-wrote : goal.returns-clause-wrote
@@ -74,7 +74,7 @@ returns-clause-wrote g c = λ whole failed.
       | inl (not, stood) ↦ absurd (unstarted-wrote _ _ _ not.because failed)
       | inr ran ↦ absurd (recorded-wrote _ _ _ ran.given whole
           (ran-writes g.C.Clock.readings g.D.Datagrams.told g.L.In.LinkIn.told g.L.Out.LinkOut.told g.L.Dialer.told g.L.Dialer.made g.W.Crew.faults g.W.Crew.started
-          _ _ _ _ _ ran.end _ _ before read ran.ran) failed)
+          _ _ _ before read ran.ran) failed)
     ]
 
 pub returns-clause-sound : goal.returns-clause-sound
@@ -88,7 +88,7 @@ returns-clause-sound g c = λ whole writes auths accts links threads recorders.
       | inl (not, stood) ↦ unstarted-sound _ _ _ not.because recorders
       | inr ran ↦ recorded-sound _ _ _ ran.given whole
           (ran-sound g.C.Clock.readings g.D.Datagrams.told g.L.In.LinkIn.told g.L.Out.LinkOut.told g.L.Dialer.told g.L.Dialer.made g.W.Crew.faults g.W.Crew.started
-          _ _ _ _ _ ran.end _ _ before read ran.ran auths accts links threads)
+          _ _ _ before read ran.ran auths accts links threads)
     ]
 
 pub returns-in-Err-clause-ends : goal.returns-in-Err-clause-ends

@@ -27,7 +27,7 @@ returns-in_default-clause-ran g c = (
   record {
     first = c.now-first.result;
     ran = rw (c.saturating_add-until.ensures, c.booted.ensures.exact) at (rw c.in_default.is at (ran-after g.C.Clock.readings g.D.Datagrams.told g.L.In.LinkIn.told g.L.Out.LinkOut.told
-        g.L.Dialer.told g.L.Dialer.made g.W.Crew.faults g.W.Crew.started c.args.world c.now-first.new.self c.now-first.result _ _ _ _ _ _ _ (λ events has. has) c.now-first.ensures c.serve-end.ensures.ran));
+        g.L.Dialer.told g.L.Dialer.made g.W.Crew.faults g.W.Crew.started c.args.world c.now-first.new.self c.now-first.result _ _ c.serve-end.result _ _ (λ events has. has) c.now-first.ensures c.serve-end.ensures.ran));
   },
   tt,
   refl,
@@ -39,7 +39,7 @@ returns-clause-ran g c = (
   record {
     first = c.now-first.result;
     ran = rw (c.saturating_add-until.ensures, c.booted.ensures.exact) at (rw c.in-Some.is at (ran-after g.C.Clock.readings g.D.Datagrams.told g.L.In.LinkIn.told g.L.Out.LinkOut.told
-        g.L.Dialer.told g.L.Dialer.made g.W.Crew.faults g.W.Crew.started c.args.world c.now-first.new.self c.now-first.result _ _ _ _ _ _ _ (λ events has. has) c.now-first.ensures c.serve-end.ensures.ran));
+        g.L.Dialer.told g.L.Dialer.made g.W.Crew.faults g.W.Crew.started c.args.world c.now-first.new.self c.now-first.result _ _ c.serve-end.result _ _ (λ events has. has) c.now-first.ensures c.serve-end.ensures.ran));
   },
   c.report-status.ensures,
   tt,
