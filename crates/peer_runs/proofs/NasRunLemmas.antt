@@ -27,7 +27,7 @@ use Rattle.text_commands.proofs.TaskLemmas.{Goes, ends-close, ends-fault, ends-l
 use Rattle.peer_runs.specs.declared.asking.Target.{Target}
 use Rattle.peer_runs.specs.Asking.{Asked, Asks, IsAnswered, moments, received, sent}
 use Rattle.test_peers.specs.Nas.{fresh}
-use Rattle.peer_runs.specs.NasRuns.{AreFor, AsksFor, AsksLine, AsksNot, IsBrokenOff, NasBy, NasEnds, line_by, nas_task, status_at}
+use Rattle.peer_runs.specs.NasRuns.{AreFor, AsksFor, AsksLine, AsksNot, IsBrokenOff, NasBy, NasEnds, NasTold, line_by, nas_task, status_at}
 use Rattle.peer_runs.proofs.NasLemmas.{AreAll, AreAll-push, adds, are-for, are-for-more, bad-line, is-task, longer-stop, longer-text, no-bad, text-so-far, too-long}
 
 -- ---- what the devices told
@@ -156,7 +156,8 @@ not-done patience clients End status X old new left then after g takes some unen
 -- ---- the end of a run
 
 -- nothing was done
-pub ends-none : (place : Target) (patience : ℕ) (left output clock : Option (List ℕ)) (s : Socket) → NasEnds OutOfMemory place patience left left output output clock clock s s
+pub ends-none : (place : Target) (patience : ℕ) (left output clock : Option (List ℕ)) (s : Socket)
+    → NasEnds OutOfMemory place patience (record { input = left; input' = left; output = output; output' = output; clock = clock; clock' = clock; socket = s; socket' = s })
 ends-none place patience left output clock s = record {
   clients = [];
   last = None;
@@ -169,10 +170,14 @@ ends-none place patience left output clock s = record {
 
 module _ {place : Target} {patience count : ℕ} {input left output output' clock clock' : Option (List ℕ)} {old : Cutting} {s t : Socket}
     (r : RunsOn place patience count input old left output output' clock clock' s t) where
+  -- the run, where these are told after it
+  abbrev to : (then output'' clock'' : Option (List ℕ)) (u : Socket) → NasTold
+  to then output'' clock'' u = record { input = input; input' = then; output = output; output' = output''; clock = clock; clock' = clock''; socket = s; socket' = u }
+
   -- after all lines so far
   ends-so-far : (status : Status) (then : Option (List ℕ)) → IsBrokenOff status patience None
       → ((X : List ℕ) → input ≡ Some X → NasBy status patience r.clients X then output output')
-      → NasEnds status place patience input then output output' clock clock' s t
+      → NasEnds status place patience (to then output' clock' t)
   ends-so-far status then whole ends = record {
     clients = r.clients;
     last = None;
@@ -184,7 +189,7 @@ module _ {place : Target} {patience count : ℕ} {input left output output' cloc
   }
 
   pub ends-end : (new : Cutting) (then : Option (List ℕ)) → TakesRawLine End (rest_of old left) (rest_of new then) old new
-      → new.held.passed + length new.held.octets ≤ most_octets → NasEnds Done place patience input then output output' clock clock' s t
+      → new.held.passed + length new.held.octets ≤ most_octets → NasEnds Done place patience (to then output' clock' t)
   ends-end new then takes within =
       ends-so-far Done then tt (λ X is.
       ends-close (nas_task patience r.clients) (Took r.clients count) (is-task patience r.clients) Done X old new left then output' (known r X is) takes within (Appends-none output'))
@@ -192,9 +197,9 @@ module _ {place : Target} {patience count : ℕ} {input left output output' cloc
   -- ---- where the next line can't be taken
 
   pub ends-untaken : (fault : RawFault) (status : Status) (new : Cutting) (then : Option (List ℕ)) → TakesNone fault (rest_of old left) then old new
-      → status ≡ status_at (one_more count) fault → NasEnds status place patience input then output output' clock clock' s t
+      → status ≡ status_at (one_more count) fault → NasEnds status place patience (to then output' clock' t)
   ends-untaken fault status new then takes is =
-      subst (λ status. NasEnds status place patience input then output output' clock clock' s t) (sym is) (by fault takes)
+      subst (λ status. NasEnds status place patience (to then output' clock' t)) (sym is) (by fault takes)
     where
       long : (lines : List (List ℕ)) (octets : List ℕ) → Took r.clients count lines → 140000 < length octets
           → (nas_task patience r.clients).stop (lines ++ octets ∷ []) ≡ Some (record { line = one_more count; reason = 1 })
@@ -208,7 +213,7 @@ module _ {place : Target} {patience count : ℕ} {input left output output' cloc
           ends-fault (nas_task patience r.clients) (Took r.clients count) (is-task patience r.clients) fault status X old new left then (known r X is) takes of
 
       by : (fault : RawFault) → TakesNone fault (rest_of old left) then old new
-          → NasEnds (status_at (one_more count) fault) place patience input then output output' clock clock' s t
+          → NasEnds (status_at (one_more count) fault) place patience (to then output' clock' t)
       by raw.Read takes = ends-so-far ReadFault then tt (taken raw.Read ReadFault takes refl)
       by raw.TooMuch takes = ends-so-far TooLong then tt (taken raw.TooMuch TooLong takes refl)
       by raw.LongLine takes = ends-so-far (BadTranscript (one_more count) 1) then tt (taken raw.LongLine (BadTranscript (one_more count) 1) takes long)
@@ -218,7 +223,7 @@ module _ {place : Target} {patience count : ℕ} {input left output output' cloc
 
   pub ends-last-line : (new : Cutting) (then output'' clock'' : Option (List ℕ)) (u : Socket) → TakesRawLine LastLine (rest_of old left) (rest_of new then) old new → IsUnended new.line
       → new.held.passed + length new.held.octets ≤ most_octets → AsksLine (Ok tt) place patience (one_more count) new.line output' output'' clock' clock'' t u
-      → NasEnds Done place patience input then output output'' clock clock'' s u
+      → NasEnds Done place patience (to then output'' clock'' u)
   ends-last-line new then output'' clock'' u takes unended within (client, wrote, asks) =
       let more = r.clients ++ client ∷ [] in
       record {
@@ -242,7 +247,7 @@ module _ {place : Target} {patience count : ℕ} {input left output output' cloc
     -- no client asked for it
     ends-unasked : (status : Status) → IsBrokenOff status patience None → Asks place patience [] clock' clock'' t u
         → ((X : List ℕ) → input ≡ Some X → NasBy status patience r.clients X then output output')
-        → NasEnds status place patience input then output output' clock clock'' s u
+        → NasEnds status place patience (to then output' clock'' u)
     ends-unasked status whole told ends = record {
       clients = r.clients;
       last = None;
@@ -256,7 +261,7 @@ module _ {place : Target} {patience count : ℕ} {input left output output' cloc
     -- its client came to its end
     ends-asked : (status : Status) (output'' : Option (List ℕ)) (client : Asked) → IsBrokenOff status patience None → AsksFor place patience new.line client clock' clock'' t u
         → ((X : List ℕ) → input ≡ Some X → NasBy status patience (r.clients ++ client ∷ []) X then output output'')
-        → NasEnds status place patience input then output output'' clock clock'' s u
+        → NasEnds status place patience (to then output'' clock'' u)
     ends-asked status output'' client whole asks ends =
         let more = r.clients ++ client ∷ [] in
         record {
@@ -279,7 +284,7 @@ module _ {place : Target} {patience count : ℕ} {input left output output' cloc
     with status output'' client X is works =
         not-done patience (r.clients ++ client ∷ []) next status X old new left then output'' (with_one patience count r.clients client (known r X is)) takes some unended within works
 
-    bad : (status : Status) → AsksNot status place patience (one_more count) new.line clock' clock'' t u → NasEnds status place patience input then output output' clock clock'' s u
+    bad : (status : Status) → AsksNot status place patience (one_more count) new.line clock' clock'' t u → NasEnds status place patience (to then output' clock'' u)
     bad (BadTranscript number reason) (same, read, told) =
         ends-unasked (BadTranscript number reason) tt told (λ X is.
         let took = (known r X is).taken in
@@ -314,11 +319,11 @@ module _ {place : Target} {patience count : ℕ} {input left output output' cloc
     bad TooLong not = absurd not
 
     unwritten : (output'' : Option (List ℕ)) (status : Status) → (output'' ≡ output') × AsksNot status place patience (one_more count) new.line clock' clock'' t u
-        → NasEnds status place patience input then output output'' clock clock'' s u
-    unwritten output'' status (same, not) = subst (λ o. NasEnds status place patience input then output o clock clock'' s u) (sym same) (bad status not)
+        → NasEnds status place patience (to then output'' clock'' u)
+    unwritten output'' status (same, not) = subst (λ o. NasEnds status place patience (to then o clock'' u)) (sym same) (bad status not)
 
     pub ends-undone : (output'' : Option (List ℕ)) (status : Status) → AsksLine (Err status) place patience (one_more count) new.line output' output'' clock' clock'' t u
-        → NasEnds status place patience input then output output'' clock clock'' s u
+        → NasEnds status place patience (to then output'' clock'' u)
     ends-undone output'' WriteFault (client, wrote, asks) =
         ends-asked WriteFault output'' client tt asks (λ X is.
         let g = known r X is in
@@ -338,11 +343,11 @@ module _ {place : Target} {patience count : ℕ} {input left output output' cloc
 
 -- ---- a sound input is asked for whole
 
-pub completes : {place : Target} {patience : ℕ} {input left output output' clock clock' : Option (List ℕ)} {s t : Socket} (status : Status) (X : List ℕ) (a a' b b' d d' : ℕ)
-    → NasEnds status place patience input left output output' clock clock' s t → input ≡ Some X
+pub completes : {place : Target} {patience : ℕ} {run : NasTold} (status : Status) (X : List ℕ) (a a' b b' d d' : ℕ)
+    → NasEnds status place patience run → run.input ≡ Some X
     → (status ≡ Usage → ⊥) → ((line reason : ℕ) → status ≡ BadTranscript line reason → 0 < line) → EndsCounts status a a' b b' d d'
-    → (status ≡ DatagramFault → Rose s.faults t.faults)
-    → AllByRecursion (λ line. IsOk (packet_in line)) (lines_of X) → length X ≤ most_octets → (Rose b b' → ⊥) → (Rose d d' → ⊥) → (Rose s.faults t.faults → ⊥)
+    → (status ≡ DatagramFault → Rose run.socket.faults run.socket'.faults)
+    → AllByRecursion (λ line. IsOk (packet_in line)) (lines_of X) → length X ≤ most_octets → (Rose b b' → ⊥) → (Rose d d' → ⊥) → (Rose run.socket.faults run.socket'.faults → ⊥)
     → (status ≡ Done) ⊎ (status ≡ OutOfMemory)
 completes Done X a a' b b' d d' e is begun numbered counts rose sound short reads writes faults = inl refl
 completes OutOfMemory X a a' b b' d d' e is begun numbered counts rose sound short reads writes faults = inr refl

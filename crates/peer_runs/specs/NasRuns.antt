@@ -78,15 +78,26 @@ NasBy DatagramFault patience clients input left before now =
     WritesPart (nas_task patience clients) input left before now × Appends before now (flat_map (line_by patience) clients)
 NasBy status patience clients input left before now = EndsBy (nas_task patience clients) status input left before now
 
+-- What the input, the output, the clock and the socket of a run tell before it, and after it (').
+pub record NasTold : Type 0 where
+  pub input : Option (List ℕ)
+  pub input' : Option (List ℕ)
+  pub output : Option (List ℕ)
+  pub output' : Option (List ℕ)
+  pub clock : Option (List ℕ)
+  pub clock' : Option (List ℕ)
+  pub socket : Socket
+  pub socket' : Socket
+
 -- Clients asked one after another, each for its line, each of them to its end but for a last one that may be broken off.
-pub record NasEnds (status : Status) (place : Target) (patience : ℕ) (input input' output output' clock clock' : Option (List ℕ)) (s t : Socket) : Type 0 where
+pub record NasEnds (status : Status) (place : Target) (patience : ℕ) (run : NasTold) : Type 0 where
   pub clients : List Asked
   pub last : Option Asked
   pub answered : AllByRecursion (IsAnswered patience) clients
   pub broken_off : IsBrokenOff status patience last
-  pub told : Asks place patience (clients ++ option_to_list last) clock clock' s t
-  pub lines : (X : List ℕ) → input ≡ Some X → AreFor (clients ++ option_to_list last) (lines_of X)
-  pub ends : (X : List ℕ) → input ≡ Some X → NasBy status patience clients X input' output output'
+  pub told : Asks place patience (clients ++ option_to_list last) run.clock run.clock' run.socket run.socket'
+  pub lines : (X : List ℕ) → run.input ≡ Some X → AreFor (clients ++ option_to_list last) (lines_of X)
+  pub ends : (X : List ℕ) → run.input ≡ Some X → NasBy status patience clients X run.input' run.output run.output'
 
 -- ---- one line
 

@@ -200,9 +200,16 @@ pub fn nas<R: Wait, S: Source, K: Sink, C: Clock, D: Datagrams>(
     requires { (D.told socket.old).row ≡ 0 }
     ensures begun { result ≢ Status.Usage }
     // What the clients did, and by the status what was taken and written.
-    ensures ends { NasEnds result place patience (S.left input.old) (S.left input.new)
-        (K.written output.old) (K.written output.new)
-        (C.readings clock.old) (C.readings clock.new) (D.told socket.old) (D.told socket.new) }
+    ensures ends { NasEnds result place patience (record {
+      input = S.left input.old;
+      input' = S.left input.new;
+      output = K.written output.old;
+      output' = K.written output.new;
+      clock = C.readings clock.old;
+      clock' = C.readings clock.new;
+      socket = D.told socket.old;
+      socket' = D.told socket.new;
+    }) }
     ensures numbered { (line reason : ℕ) → result ≡ Status.BadTranscript line reason → 0 < line }
     // When each fault comes.
     ensures fault { (result ≡ Status.DatagramFault) ↔ ((D.told socket.new).row ≡ 16) }
