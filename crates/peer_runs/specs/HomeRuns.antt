@@ -6,6 +6,7 @@ use Rattle.diameter_message.specs.declared.fault.FrameFault.{FrameFault}
 use Rattle.diameter_message.specs.declared.fault.MessageFault.{MessageFault}
 use Rattle.diameter_message.specs.Framing.{FramerParts, StandsFor, messages_of, stream_fault}
 use Rattle.diameter_message.specs.Message.{MessageParts, read_message}
+use Rattle.wire_devices.specs.Dialling.{Dialled, Dials}
 use Rattle.wire_devices.specs.Links.{Inlet, Outlet}
 use Rattle.wire_devices.specs.Telling.{Adds, TellsOnly}
 use Rattle.agent_status.specs.declared.status.Status.{Status}
@@ -15,6 +16,7 @@ use Rattle.test_peers.specs.declared.fault.HomeFault.TheVariants.{BadLine}
 use Rattle.test_peers.specs.Answers.{answer_by_home}
 use Rattle.test_peers.specs.Users.{users_in}
 use Rattle.text_commands.specs.WholeInput.{TakenWhole, TakesNot}
+use Rattle.peer_runs.specs.Until.{InTime, TimeIsOver}
 
 -- ---- messages
 
@@ -122,23 +124,49 @@ pub record Knows (users : List User) (input : List ℕ) (left : Option (List ℕ
   pub taken : TakenWhole input left
   pub users_are : users_in input ≡ Ok users
 
--- What was taken of the input, what the dial did once the users were read, what the link gave and was handed where one was
--- made, and what was written, by the status.
+-- A run of the home server: its time in milliseconds, and what the input, the count of its faults, the dialer, the clock and
+-- the output tell before it, and after it (').
+pub record HomeRun : Type 0 where
+  pub millis : ℕ
+  pub input : Option (List ℕ)
+  pub input' : Option (List ℕ)
+  pub reads : ℕ
+  pub reads' : ℕ
+  pub dials : Dials
+  pub dials' : Dials
+  pub clock : Option (List ℕ)
+  pub clock' : Option (List ℕ)
+  pub output : Option (List ℕ)
+  pub output' : Option (List ℕ)
+
+-- how a run over a link ends, which goes on until its time is over
+abbrev pub RunsTimed : Status → List User → HomeRun → Inlet → Outlet → Type 0
+RunsTimed status users run inlet outlet =
+    RunsBy status users (InTime run.millis run.clock run.clock') (TimeIsOver run.millis run.clock run.clock') inlet outlet run.output run.output'
+
 module _ {I O : Type 0} (hears : I → Inlet) (speaks : O → Outlet) where
-  abbrev pub HomeBy : Status → Option (I × O) → List ℕ → Option (List ℕ) → Type 0 → Type 0 → Type 0 → Option (List ℕ) → Option (List ℕ) → Type 0
-  HomeBy status None input left dialled in_time late before now =
-      (now ≡ before) × (ReadsNone status input left
-      ⊎ ((users : List User) × Knows users input left × dialled × (status ≡ LinkFault)))
-  HomeBy status (Some link) input left dialled in_time late before now =
-      (users : List User) × Knows users input left × dialled × RunsBy status users in_time late (hears link.0) (speaks link.1) before now
+  -- What was taken of this input, what the dial did once the users were read, what the link gave and was handed where one was
+  -- made, and what was written, by the status.
+  abbrev pub HomeByInput : Status → Option (I × O) → List ℕ → HomeRun → Type 0
+  HomeByInput status None input run =
+      (run.output' ≡ run.output) × (ReadsNone status input run.input'
+      ⊎ ((users : List User) × Knows users input run.input' × Dialled {A = I × O} None run.dials run.dials' × (status ≡ LinkFault)))
+  HomeByInput status (Some link) input run =
+      (users : List User) × Knows users input run.input' × Dialled (Some link) run.dials run.dials'
+      × RunsTimed status users run (hears link.0) (speaks link.1)
+
+  -- how a run ends, where the input is told
+  abbrev pub HomeBy : Status → Option (I × O) → HomeRun → Type 0
+  HomeBy status link run = (input : List ℕ) → run.input ≡ Some input → HomeByInput status link input run
 
   -- The same where the input isn't told: of whatever users, by the counts of the source's faults too. Without a link the run
   -- ended before its dial, or at it.
-  abbrev pub HomeCauses : Status → Option (I × O) → ℕ → ℕ → Type 0 → Type 0 → Type 0 → Option (List ℕ) → Option (List ℕ) → Type 0
-  HomeCauses status None reads reads' dialled in_time late before now =
-      (now ≡ before) × (FailsToRead status reads reads' ⊎ (dialled × (status ≡ LinkFault)))
-  HomeCauses status (Some link) reads reads' dialled in_time late before now =
-      (users : List User) × dialled × RunsBy status users in_time late (hears link.0) (speaks link.1) before now
+  abbrev pub HomeCauses : Status → Option (I × O) → HomeRun → Type 0
+  HomeCauses status None run =
+      (run.output' ≡ run.output)
+      × (FailsToRead status run.reads run.reads' ⊎ (Dialled {A = I × O} None run.dials run.dials' × (status ≡ LinkFault)))
+  HomeCauses status (Some link) run =
+      (users : List User) × Dialled (Some link) run.dials run.dials' × RunsTimed status users run (hears link.0) (speaks link.1)
 
   -- no call on the link failed
   abbrev pub IsSound : Option (I × O) → Type 0

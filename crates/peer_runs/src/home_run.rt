@@ -3,13 +3,12 @@
 ghost use Rattle.std.specs.Prelude.{◌≡◌, ◌≢◌, ◌≤◌, ◌⊎◌, ℕ, List, [], Option, Some, Ok, Err, length, IfOk, IfErr, MatchResult};
 ghost use Rattle.wire_core.specs.Counts.{Rose};
 ghost use Rattle.diameter_message.specs.Message.{read_message};
-ghost use Rattle.wire_devices.specs.Dialling.{Dialled};
 ghost use Rattle.wire_devices.specs.Links.{Inlet, IsFreshInlet, IsFreshOutlet};
 ghost use Rattle.test_peers.specs.Users.{users_in};
 ghost use Rattle.test_peers.specs.declared.users.User.{User};
 ghost use Rattle.text_commands.specs.WholeInput.{most_whole};
 ghost use Rattle.peer_runs.specs.HomeRuns.{FailsToRead, KeepsAnswering, HomeBy, HomeCauses, HomeCounts, IsSound, Knows, ReadsNone, Rests, RunsBy, SoFar, Takes, answer_octets, command_line as line_of, command_of as command_in, command_text};
-ghost use Rattle.peer_runs.specs.Until.{Early, InTime, Late, TimeIsOver};
+ghost use Rattle.peer_runs.specs.Until.{Early, Late};
 
 use agent_status::Status;
 use diameter_message::{Framer, Next, parse};
@@ -233,18 +232,32 @@ pub fn home<R: Wait, S: Source, K: Sink, C: Clock, L: Dialer>(
     dialer: &mut L,
 ) -> HomeEnd<L::In, L::Out>
     ensures begun { result.status ≢ Status.Usage }
-    ensures ends { (X : List ℕ) → S.left input.old ≡ Some X
-        → HomeBy L.In.told L.Out.told result.status result.link X (S.left input.new)
-        (Dialled result.link (L.told dialer.old) (L.told dialer.new))
-        (InTime millis (C.readings clock.old) (C.readings clock.new))
-        (TimeIsOver millis (C.readings clock.old) (C.readings clock.new))
-        (K.written output.old) (K.written output.new) }
-    ensures causes { HomeCauses L.In.told L.Out.told result.status result.link (S.faults input.old)
-        (S.faults input.new)
-        (Dialled result.link (L.told dialer.old) (L.told dialer.new))
-        (InTime millis (C.readings clock.old) (C.readings clock.new))
-        (TimeIsOver millis (C.readings clock.old) (C.readings clock.new))
-        (K.written output.old) (K.written output.new) }
+    ensures ends { HomeBy L.In.told L.Out.told result.status result.link (record {
+      millis = millis;
+      input = S.left input.old;
+      input' = S.left input.new;
+      reads = S.faults input.old;
+      reads' = S.faults input.new;
+      dials = L.told dialer.old;
+      dials' = L.told dialer.new;
+      clock = C.readings clock.old;
+      clock' = C.readings clock.new;
+      output = K.written output.old;
+      output' = K.written output.new;
+    }) }
+    ensures causes { HomeCauses L.In.told L.Out.told result.status result.link (record {
+      millis = millis;
+      input = S.left input.old;
+      input' = S.left input.new;
+      reads = S.faults input.old;
+      reads' = S.faults input.new;
+      dials = L.told dialer.old;
+      dials' = L.told dialer.new;
+      clock = C.readings clock.old;
+      clock' = C.readings clock.new;
+      output = K.written output.old;
+      output' = K.written output.new;
+    }) }
     ensures counts { HomeCounts result.status (S.faults input.old) (S.faults input.new)
         (K.faults output.old) (K.faults output.new) }
     // A list of users that is short enough is served, but where a call failed or memory ran out.
