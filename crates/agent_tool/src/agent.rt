@@ -167,16 +167,34 @@ where
     // The peers of the tests.
     ensures home { (address port millis : ℕ)
         → command_of_words words.now ≡ Some (commands.Run (places.Home address port) millis)
-        → HomeEnds L.In.told L.Out.told result.finish.status result.finish.home millis
-        (S.left input.old) (S.left input.new)
-        (L.told world.dialer) (L.told result.finish.world.dialer) (C.readings world.clock)
-        (C.readings result.finish.world.clock) (K.written output.old) (K.written output.new) }
+        → HomeEnds L.In.told L.Out.told result.finish.status result.finish.home (record {
+          millis = millis;
+          input = S.left input.old;
+          input' = S.left input.new;
+          reads = S.faults input.old;
+          reads' = S.faults input.new;
+          dials = L.told world.dialer;
+          dials' = L.told result.finish.world.dialer;
+          clock = C.readings world.clock;
+          clock' = C.readings result.finish.world.clock;
+          output = K.written output.old;
+          output' = K.written output.new;
+        }) }
     ensures home_causes { (address port millis : ℕ)
         → command_of_words words.now ≡ Some (commands.Run (places.Home address port) millis)
-        → HomeCausedBy L.In.told L.Out.told result.finish.status result.finish.home millis
-        (S.faults input.old) (S.faults input.new)
-        (L.told world.dialer) (L.told result.finish.world.dialer) (C.readings world.clock)
-        (C.readings result.finish.world.clock) (K.written output.old) (K.written output.new) }
+        → HomeCausedBy L.In.told L.Out.told result.finish.status result.finish.home (record {
+          millis = millis;
+          input = S.left input.old;
+          input' = S.left input.new;
+          reads = S.faults input.old;
+          reads' = S.faults input.new;
+          dials = L.told world.dialer;
+          dials' = L.told result.finish.world.dialer;
+          clock = C.readings world.clock;
+          clock' = C.readings result.finish.world.clock;
+          output = K.written output.old;
+          output' = K.written output.new;
+        }) }
     ensures home_counts { (address port millis : ℕ)
         → command_of_words words.now ≡ Some (commands.Run (places.Home address port) millis)
         → HomeCounts result.finish.status (S.faults input.old) (S.faults input.new)
@@ -190,10 +208,16 @@ where
         → (result.finish.status ≡ Status.Done) ⊎ (result.finish.status ≡ Status.OutOfMemory) }
     ensures nas { (address port millis : ℕ)
         → command_of_words words.now ≡ Some (commands.Run (places.Nas address port) millis)
-        → NasRan result.finish.status address port millis (S.left input.old) (S.left input.new)
-        (K.written output.old) (K.written output.new)
-        (C.readings world.clock) (C.readings result.finish.world.clock) (D.told world.auth)
-        (D.told result.finish.world.auth) }
+        → NasRan result.finish.status (record { address = address; port = port }) millis (record {
+          input = S.left input.old;
+          input' = S.left input.new;
+          output = K.written output.old;
+          output' = K.written output.new;
+          clock = C.readings world.clock;
+          clock' = C.readings result.finish.world.clock;
+          socket = D.told world.auth;
+          socket' = D.told result.finish.world.auth;
+        }) }
     ensures nas_counts { (address port millis : ℕ)
         → command_of_words words.now ≡ Some (commands.Run (places.Nas address port) millis)
         → EndsCounts result.finish.status (S.ends input.old) (S.ends input.new) (S.faults input.old)

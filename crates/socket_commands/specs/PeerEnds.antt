@@ -2,9 +2,7 @@
 use Rattle.std.specs.Prelude.{◌≡◌, ℕ, ◌≤◌, ◌↔◌, List, length, Option, Some, None, Ok, IsOk}
 use Rattle.std.specs.List.{AllByRecursion}
 use Rattle.wire_core.specs.Counts.{Rose}
-use Rattle.wire_devices.specs.Dialling.{Dialled, Dials}
 use Rattle.wire_devices.specs.Links.{Inlet, Outlet}
-use Rattle.wire_devices.specs.Sockets.{Socket}
 use Rattle.agent_status.specs.declared.status.Status.{Status}
 use Rattle.agent_status.specs.declared.status.Status.TheVariants.{DatagramFault}
 use Rattle.test_peers.specs.declared.users.User.{User}
@@ -13,9 +11,9 @@ use Rattle.test_peers.specs.Users.{users_in}
 use Rattle.text_lines.specs.Streams.{most_octets}
 use Rattle.text_lines.specs.Words.{lines_of}
 use Rattle.text_commands.specs.WholeInput.{most_whole}
-use Rattle.peer_runs.specs.HomeRuns.{HomeBy, HomeCauses, IsSound}
-use Rattle.peer_runs.specs.NasRuns.{NasEnds}
-use Rattle.peer_runs.specs.Until.{InTime, TimeIsOver}
+use Rattle.peer_runs.specs.declared.asking.Target.{Target}
+use Rattle.peer_runs.specs.HomeRuns.{HomeBy, HomeCauses, HomeRun, IsSound}
+use Rattle.peer_runs.specs.NasRuns.{NasEnds, NasTold}
 use Rattle.server_workers.specs.declared.links.Pair.{Pair}
 
 -- the two ends of a link, where there is one
@@ -25,15 +23,12 @@ link_of (Some pair) = Some (pair.link_in, pair.link_out)
 
 module _ {I O : Type 0} (hears : I → Inlet) (speaks : O → Outlet) where
   -- how a home server's run ends, where the input is told
-  abbrev pub HomeEnds : Status → Option (Pair I O) → ℕ → Option (List ℕ) → Option (List ℕ) → Dials → Dials → Option (List ℕ) → Option (List ℕ) → Option (List ℕ) → Option (List ℕ) → Type 0
-  HomeEnds status link millis told left dials dials' clock clock' before now =
-      (input : List ℕ) → told ≡ Some input
-      → HomeBy hears speaks status (link_of link) input left (Dialled (link_of link) dials dials') (InTime millis clock clock') (TimeIsOver millis clock clock') before now
+  abbrev pub HomeEnds : Status → Option (Pair I O) → HomeRun → Type 0
+  HomeEnds status link run = HomeBy hears speaks status (link_of link) run
 
   -- the same whether or not the input is told, of whatever users, by the counts of the source's faults too
-  abbrev pub HomeCausedBy : Status → Option (Pair I O) → ℕ → ℕ → ℕ → Dials → Dials → Option (List ℕ) → Option (List ℕ) → Option (List ℕ) → Option (List ℕ) → Type 0
-  HomeCausedBy status link millis reads reads' dials dials' clock clock' before now =
-      HomeCauses hears speaks status (link_of link) reads reads' (Dialled (link_of link) dials dials') (InTime millis clock clock') (TimeIsOver millis clock clock') before now
+  abbrev pub HomeCausedBy : Status → Option (Pair I O) → HomeRun → Type 0
+  HomeCausedBy status link run = HomeCauses hears speaks status (link_of link) run
 
   -- the input is a list of users that is short enough, and no call on the link failed
   pub record IsSoundHome (link : Option (Pair I O)) (told : Option (List ℕ)) : Type 0 where
@@ -45,10 +40,10 @@ module _ {I O : Type 0} (hears : I → Inlet) (speaks : O → Outlet) where
     pub sound : IsSound hears speaks (link_of link)
 
 -- How a client's run ends. A failed socket ends it where 16 receives in a row failed, and then only.
-pub record NasRan (status : Status) (address port millis : ℕ) (input left before now clock clock' : Option (List ℕ)) (s t : Socket) : Type 0 where
-  pub ends : NasEnds status (record { address = address; port = port }) millis input left before now clock clock' s t
-  pub failed : (status ≡ DatagramFault) ↔ (t.row ≡ 16)
-  pub rose : status ≡ DatagramFault → Rose s.faults t.faults
+pub record NasRan (status : Status) (place : Target) (patience : ℕ) (run : NasTold) : Type 0 where
+  pub ends : NasEnds status place patience run
+  pub failed : (status ≡ DatagramFault) ↔ (run.socket'.row ≡ 16)
+  pub rose : status ≡ DatagramFault → Rose run.socket.faults run.socket'.faults
 
 -- each line of the input is a packet, and the input is short enough
 pub record TakesAll (told : Option (List ℕ)) : Type 0 where

@@ -42,14 +42,32 @@ where
     L: Dialer,
     ensures begun { result.status ≢ Status.Usage }
     ensures trail { result.trail ≡ None }
-    ensures ends { HomeEnds L.In.told L.Out.told result.status result.home millis (S.left input.old)
-        (S.left input.new)
-        (L.told world.dialer) (L.told result.world.dialer) (C.readings world.clock)
-        (C.readings result.world.clock) (K.written output.old) (K.written output.new) }
-    ensures causes { HomeCausedBy L.In.told L.Out.told result.status result.home millis
-        (S.faults input.old) (S.faults input.new)
-        (L.told world.dialer) (L.told result.world.dialer) (C.readings world.clock)
-        (C.readings result.world.clock) (K.written output.old) (K.written output.new) }
+    ensures ends { HomeEnds L.In.told L.Out.told result.status result.home (record {
+      millis = millis;
+      input = S.left input.old;
+      input' = S.left input.new;
+      reads = S.faults input.old;
+      reads' = S.faults input.new;
+      dials = L.told world.dialer;
+      dials' = L.told result.world.dialer;
+      clock = C.readings world.clock;
+      clock' = C.readings result.world.clock;
+      output = K.written output.old;
+      output' = K.written output.new;
+    }) }
+    ensures causes { HomeCausedBy L.In.told L.Out.told result.status result.home (record {
+      millis = millis;
+      input = S.left input.old;
+      input' = S.left input.new;
+      reads = S.faults input.old;
+      reads' = S.faults input.new;
+      dials = L.told world.dialer;
+      dials' = L.told result.world.dialer;
+      clock = C.readings world.clock;
+      clock' = C.readings result.world.clock;
+      output = K.written output.old;
+      output' = K.written output.new;
+    }) }
     ensures counts { HomeCounts result.status (S.faults input.old) (S.faults input.new)
         (K.faults output.old) (K.faults output.new) }
     ensures complete { IsSoundHome L.In.told L.Out.told result.home (S.left input.old)
@@ -100,10 +118,16 @@ where
     requires row { (D.told world.auth).row ≡ 0 }
     ensures begun { result.status ≢ Status.Usage }
     ensures trail { (result.trail ≡ None) × (result.home ≡ None) }
-    ensures ends { NasRan result.status place.address place.port millis (S.left input.old)
-        (S.left input.new) (K.written output.old) (K.written output.new)
-        (C.readings world.clock) (C.readings result.world.clock) (D.told world.auth)
-        (D.told result.world.auth) }
+    ensures ends { NasRan result.status place millis (record {
+      input = S.left input.old;
+      input' = S.left input.new;
+      output = K.written output.old;
+      output' = K.written output.new;
+      clock = C.readings world.clock;
+      clock' = C.readings result.world.clock;
+      socket = D.told world.auth;
+      socket' = D.told result.world.auth;
+    }) }
     ensures counts { EndsCounts result.status (S.ends input.old) (S.ends input.new)
         (S.faults input.old) (S.faults input.new)
         (K.faults output.old) (K.faults output.new) }
