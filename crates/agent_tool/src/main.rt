@@ -200,6 +200,20 @@ fn unopened(status: Status, address: u32, port: u16, error: io::Error) -> Outcom
     }
 }
 
+/// Why no link could be had with the home server at this address, where the run ended so.
+fn unlinked<R>(status: &Status, dialer: &TcpDialer<R>, address: u32, port: u16) -> Option<Trouble> {
+    let refusal = match status {
+        Status::LinkFault => dialer.refusal(),
+        _ => None,
+    };
+    refusal.map(|why| Trouble {
+        what: "no link to",
+        address,
+        port,
+        why,
+    })
+}
+
 /// Says on stderr what a recorded run took, and where its record ends before it.
 fn tell_record(rt: &HostRuntime, taken: Option<Taken>, closed: Option<u64>) {
     if let Some(Taken { entries, lost }) = taken {
@@ -331,6 +345,31 @@ fn socket_at<R: Net>(rt: &R, address: u32, port: u16) -> Result<UdpDatagrams, Ou
     ))
 }
 
+/// The sockets for logins and for accounting at these ports, or how a run ends without them.
+fn sockets_at<R: Net>(
+    rt: &R,
+    address: u32,
+    auth: u16,
+    acct: u16,
+) -> Result<(UdpDatagrams, UdpDatagrams), Outcome>
+    ensures { IfOk result (λ sockets. (sockets.0.row ≡ 0) × (sockets.1.row ≡ 0)) }
+{
+    let for_logins = socket_at(rt, address, auth)?;
+    let for_accounting = socket_at(rt, address, acct)?;
+    Ok((for_logins, for_accounting))
+}
+
+/// The socket of a command that serves nobody: none, but for the client of the tests. The system chooses where that client's
+/// packets come from.
+fn socket_for<R: Net>(rt: &R, places: Option<Places>) -> Result<UdpDatagrams, Outcome>
+    ensures { IfOk result (λ socket. socket.row ≡ 0) }
+{
+    match places {
+        Some(Places::Nas { .. }) => socket_at(rt, 0, 0),
+        _ => Ok(UdpDatagrams::closed()),
+    }
+}
+
 /// A listener at this address and port, or how a run ends without it.
 fn accepter_at<R: Net<Listener = TcpListener, Stream = TcpStream> + Copy>(
     rt: R,
@@ -395,18 +434,10 @@ where
         dialer,
         crew: _,
     } = world;
-    let refusal = match status {
-        Status::LinkFault => dialer.refusal(),
-        _ => None,
-    };
+    let trouble = unlinked(&status, &dialer, peer, port);
     Outcome {
         status,
-        trouble: refusal.map(|why| Trouble {
-            what: "no link to",
-            address: peer,
-            port,
-            why,
-        }),
+        trouble,
         taken,
         closed,
     }
@@ -478,7 +509,8 @@ where
     K: Sink,
     T: Sink + Send + Drop + 'static,
 {
-    match places(words) {
+    let places = places(words);
+    match places {
         Some(
             Places::Serve {
                 address,
@@ -495,10 +527,7 @@ where
                 port,
             },
         ) => {
-            let sockets = (
-                socket_at(&rt, address, auth)?,
-                socket_at(&rt, address, acct)?,
-            );
+            let sockets = sockets_at(&rt, address, auth, acct)?;
             Ok(serve(
                 rt, alloc, random, words, input, output, record, sockets, peer, port,
             ))
@@ -510,18 +539,11 @@ where
                 rt, alloc, random, words, input, output, record, none, accepter,
             ))
         }
-        // The system chooses where the packets of the client come from.
-        Some(Places::Nas { .. }) => {
-            let socket = socket_at(&rt, 0, 0)?;
+        Some(Places::Nas { .. }) | None => {
+            let socket = socket_for(&rt, places)?;
             let none = TcpDialer::new(rt, 0, 0);
             Ok(run_with(
                 rt, alloc, random, words, input, output, record, socket, none,
-            ))
-        }
-        None => {
-            let (socket, dialer) = (UdpDatagrams::closed(), TcpDialer::new(rt, 0, 0));
-            Ok(run_with(
-                rt, alloc, random, words, input, output, record, socket, dialer,
             ))
         }
     }

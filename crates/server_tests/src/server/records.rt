@@ -74,6 +74,23 @@ impl EntryWriter for Notes {
     }
 }
 
+/// Notes of no entry yet, which take so many writes.
+fn notes_of(host: HostRuntime, writes: u32) -> Notes {
+    Notes {
+        rt: host,
+        kinds: Vec::new(host.alloc()),
+        writes,
+        faults: 0,
+    }
+}
+
+/// A crew that refuses these starts.
+fn crew_refusing<R: Copy>(rt: R, alloc: Global, refused: &[usize]) -> Result<ThreadCrew<R>, Fail> {
+    let mut starts = Vec::new(alloc);
+    starts.extend_from_slice(refused)?;
+    Ok(ThreadCrew::new(alloc, rt, starts))
+}
+
 /// A login is asked and answered, and comes again once its reply was handed out.
 fn ask(alloc: Global, play: &mut Play) -> Result<(), Fail> {
     play.auth.comes(alloc, LOGIN, SERVING)?;
@@ -103,8 +120,7 @@ fn run_recorded<R: Threads + Wait + Copy + Send + 'static>(
 ) -> Result<Recorded, Fail> {
     let mut play = Play::new(host, REPEATED)?;
     ask(host.alloc(), &mut play)?;
-    let mut starts = Vec::new(host.alloc());
-    starts.extend_from_slice(refused)?;
+    let mut recorders = crew_refusing(rt, host.alloc(), refused)?;
     let Stage {
         alloc,
         random,
@@ -112,13 +128,7 @@ fn run_recorded<R: Threads + Wait + Copy + Send + 'static>(
         config,
         world,
     } = set_up(rt, play)?;
-    let notes = Notes {
-        rt: host,
-        kinds: Vec::new(alloc),
-        writes,
-        faults: 0,
-    };
-    let mut recorders = ThreadCrew::new(alloc, rt, starts);
+    let notes = notes_of(host, writes);
     let RecordedRun { finish, record } = record(
         &rt,
         alloc,
