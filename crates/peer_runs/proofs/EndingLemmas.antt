@@ -12,6 +12,7 @@ use Rattle.test_peers.specs.Users.{users_in}
 use Rattle.text_commands.specs.WholeInput.{most_whole}
 use Rattle.peer_runs.specs.HomeRuns.{FailsToRead, ReadsNone, RunsBy}
 use Rattle.peer_runs.specs.Until.{Early, InTime, Late, TimeIsOver, until_of}
+use Rattle.peer_runs.proofs.HomeRunLemmas.{linked}
 use Rattle.peer_runs.proofs.UntilLemmas.{in-time, time-over}
 
 -- a short list of users is read, but for a failed read and want of memory
@@ -35,8 +36,8 @@ reading-complete (LinkEnded cause) X users left reads reads' fails none known sh
 
 -- a run over a link until a moment, which was counted from the first reading
 pub runs-timed : (status : Status) (users : List User) (inlet : Inlet) (outlet : Outlet) (before now : Option (List ℕ)) (first millis until : ℕ) (start then end : Option (List ℕ))
-    → Adds start then (first ∷ []) → until ≡ until_of first millis → RunsBy status users (Early until then end) (Late until then end) inlet outlet before now
-    → RunsBy status users (InTime millis start end) (TimeIsOver millis start end) inlet outlet before now
+    → Adds start then (first ∷ []) → until ≡ until_of first millis → RunsBy status users (Early until then end) (Late until then end) (linked inlet outlet before now)
+    → RunsBy status users (InTime millis start end) (TimeIsOver millis start end) (linked inlet outlet before now)
 runs-timed status users inlet outlet before now first millis until start then end adds is (inl runs) =
     inl (in-time first millis adds (subst (λ (u : ℕ). Early u then end) is runs.0), runs.1)
 runs-timed status users inlet outlet before now first millis until start then end adds is (inr runs) =

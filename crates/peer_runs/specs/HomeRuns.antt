@@ -60,49 +60,56 @@ pub record Counted (ends receives sends : ℕ) (inlet : Inlet) (outlet : Outlet)
   pub failed_receives : inlet.faults ≡ receives
   pub failed_sends : outlet.faults ≡ sends
 
+-- What the two ends of a link tell after a run over it, and what the output tells before that run, and after it (').
+pub record LinkTold : Type 0 where
+  pub inlet : Inlet
+  pub outlet : Outlet
+  pub output : Option (List ℕ)
+  pub output' : Option (List ℕ)
+
 -- The link gave these octets. These messages were answered, and each answer has its line.
-pub record Answered (users : List User) (octets : List ℕ) (messages : List (List ℕ)) (inlet : Inlet) (outlet : Outlet) (before now : Option (List ℕ)) : Type 0 where
-  pub received : TellsOnly inlet.received octets
-  pub handed : TellsOnly outlet.handed (answers users messages)
-  pub written : Appends before now (command_lines users messages)
+pub record Answered (users : List User) (octets : List ℕ) (messages : List (List ℕ)) (told : LinkTold) : Type 0 where
+  pub received : TellsOnly told.inlet.received octets
+  pub handed : TellsOnly told.outlet.handed (answers users messages)
+  pub written : Appends told.output told.output' (command_lines users messages)
 
 -- Each message that the link gave was answered, and what comes after them shows this fault.
-pub record AnswersAll (users : List User) (inlet : Inlet) (outlet : Outlet) (before now : Option (List ℕ)) (fault : Option FrameFault) : Type 0 where
+pub record AnswersAll (users : List User) (told : LinkTold) (fault : Option FrameFault) : Type 0 where
   pub octets : List ℕ
-  pub answered : Answered users octets (messages_of octets) inlet outlet before now
+  pub answered : Answered users octets (messages_of octets) told
   pub shows : stream_fault octets ≡ fault
 
 -- The first messages that the link gave were answered. Of the answer to the next one, if there is one, so many octets were
 -- handed in, and after all of them so many of its line were written.
-pub record AnswersPart (users : List User) (inlet : Inlet) (outlet : Outlet) (before now : Option (List ℕ)) : Type 0 where
+pub record AnswersPart (users : List User) (told : LinkTold) : Type 0 where
   pub octets : List ℕ
   pub front : List (List ℕ)
   pub more : List (List ℕ)
   pub answer_count : ℕ
   pub line_count : ℕ
   pub messages : messages_of octets ≡ front ++ more
-  pub received : TellsOnly inlet.received octets
-  pub handed : TellsOnly outlet.handed (answers users front ++ take answer_count (answers users (take 1 more)))
-  pub written : Appends before now (command_lines users front ++ take line_count (command_lines users (take 1 more)))
+  pub received : TellsOnly told.inlet.received octets
+  pub handed : TellsOnly told.outlet.handed (answers users front ++ take answer_count (answers users (take 1 more)))
+  pub written : Appends told.output told.output' (command_lines users front ++ take line_count (command_lines users (take 1 more)))
   pub in_order : 0 < line_count → length (answers users (take 1 more)) ≤ answer_count
 
 -- how a run over a link ends while its time isn't over: with the link, with a fault of its stream, or with the first failure
-abbrev pub StopsBy : Status → List User → Inlet → Outlet → Option (List ℕ) → Option (List ℕ) → Type 0
-StopsBy Done users inlet outlet before now =
-    (AnswersAll users inlet outlet before now None × Counted 1 0 0 inlet outlet)
-    ⊎ ((fault : FrameFault) × AnswersAll users inlet outlet before now (Some fault) × Counted 0 0 0 inlet outlet)
-StopsBy LinkFault users inlet outlet before now =
-    (AnswersAll users inlet outlet before now None × Counted 0 1 0 inlet outlet)
-    ⊎ (AnswersPart users inlet outlet before now × Counted 0 0 1 inlet outlet)
-StopsBy WriteFault users inlet outlet before now = AnswersPart users inlet outlet before now × Counted 0 0 0 inlet outlet
-StopsBy OutOfMemory users inlet outlet before now = AnswersPart users inlet outlet before now × Counted 0 0 0 inlet outlet
-StopsBy status users inlet outlet before now = ⊥
+abbrev pub StopsBy : Status → List User → LinkTold → Type 0
+StopsBy Done users told =
+    (AnswersAll users told None × Counted 1 0 0 told.inlet told.outlet)
+    ⊎ ((fault : FrameFault) × AnswersAll users told (Some fault) × Counted 0 0 0 told.inlet told.outlet)
+StopsBy LinkFault users told =
+    (AnswersAll users told None × Counted 0 1 0 told.inlet told.outlet)
+    ⊎ (AnswersPart users told × Counted 0 0 1 told.inlet told.outlet)
+StopsBy WriteFault users told = AnswersPart users told × Counted 0 0 0 told.inlet told.outlet
+StopsBy OutOfMemory users told = AnswersPart users told × Counted 0 0 0 told.inlet told.outlet
+StopsBy status users told = ⊥
 
 -- how a run over a link ends
-abbrev pub RunsBy : Status → List User → Type 0 → Type 0 → Inlet → Outlet → Option (List ℕ) → Option (List ℕ) → Type 0
-RunsBy status users in_time late inlet outlet before now =
-    (in_time × StopsBy status users inlet outlet before now)
-    ⊎ (late × (status ≡ Done) × AnswersAll users inlet outlet before now None × Counted 0 0 0 inlet outlet)
+abbrev pub RunsBy : Status → List User → Type 0 → Type 0 → LinkTold → Type 0
+RunsBy status users in_time late told =
+    (in_time × StopsBy status users told)
+    ⊎ (late × (status ≡ Done) × AnswersAll users told None × Counted 0 0 0 told.inlet told.outlet)
 
 -- ---- the whole run
 
@@ -142,7 +149,8 @@ pub record HomeRun : Type 0 where
 -- how a run over a link ends, which goes on until its time is over
 abbrev pub RunsTimed : Status → List User → HomeRun → Inlet → Outlet → Type 0
 RunsTimed status users run inlet outlet =
-    RunsBy status users (InTime run.millis run.clock run.clock') (TimeIsOver run.millis run.clock run.clock') inlet outlet run.output run.output'
+    RunsBy status users (InTime run.millis run.clock run.clock') (TimeIsOver run.millis run.clock run.clock')
+    (record { inlet = inlet; outlet = outlet; output = run.output; output' = run.output' })
 
 module _ {I O : Type 0} (hears : I → Inlet) (speaks : O → Outlet) where
   -- What was taken of this input, what the dial did once the users were read, what the link gave and was handed where one was
@@ -188,34 +196,43 @@ FailsToAnswer WriteFault old new = new.faults ≡ old.faults
 FailsToAnswer OutOfMemory old new = new.faults ≡ old.faults
 FailsToAnswer status old new = ⊥
 
+-- What an end and an output tell before a message is taken, and after it (').
+pub record TakingTold : Type 0 where
+  pub outlet : Outlet
+  pub outlet' : Outlet
+  pub output : Option (List ℕ)
+  pub output' : Option (List ℕ)
+
 -- so many octets of an answer were handed in, and after all of them so many of its line were written
-pub record AnswersIn (answer line : List ℕ) (old new : Outlet) (before now : Option (List ℕ)) : Type 0 where
+pub record AnswersIn (answer line : List ℕ) (told : TakingTold) : Type 0 where
   pub answer_count : ℕ
   pub line_count : ℕ
-  pub handed : Adds old.handed new.handed (take answer_count answer)
-  pub written : Appends before now (take line_count line)
+  pub handed : Adds told.outlet.handed told.outlet'.handed (take answer_count answer)
+  pub written : Appends told.output told.output' (take line_count line)
   pub in_order : 0 < line_count → length answer ≤ answer_count
 
 -- what taking a message does, by the status if that ends the run
-abbrev pub Takes : Option Status → List ℕ → List ℕ → Outlet → Outlet → Option (List ℕ) → Option (List ℕ) → Type 0
-Takes None answer line old new before now = Adds old.handed new.handed answer × Appends before now line × (new.faults ≡ old.faults)
-Takes (Some status) answer line old new before now = FailsToAnswer status old new × AnswersIn answer line old new before now
+abbrev pub Takes : Option Status → List ℕ → List ℕ → TakingTold → Type 0
+Takes None answer line told =
+    Adds told.outlet.handed told.outlet'.handed answer × Appends told.output told.output' line
+    × (told.outlet'.faults ≡ told.outlet.faults)
+Takes (Some status) answer line told = FailsToAnswer status told.outlet told.outlet' × AnswersIn answer line told
 
 -- The framer was fed all that was received but this piece. What it gave was answered.
-pub record SoFar (users : List User) (piece : List ℕ) (framer : FramerParts) (inlet : Inlet) (outlet : Outlet) (before now : Option (List ℕ)) : Type 0 where
+pub record SoFar (users : List User) (piece : List ℕ) (framer : FramerParts) (told : LinkTold) : Type 0 where
   pub fed : List ℕ
   pub given : List (List ℕ)
   pub stands : StandsFor framer fed given
-  pub answered : Answered users (fed ++ piece) given inlet outlet before now
-  pub counted : Counted 0 0 0 inlet outlet
+  pub answered : Answered users (fed ++ piece) given told
+  pub counted : Counted 0 0 0 told.inlet told.outlet
 
 -- The framer was fed all that was received, and each message of it was answered.
-pub record Rests (users : List User) (framer : FramerParts) (inlet : Inlet) (outlet : Outlet) (before now : Option (List ℕ)) : Type 0 where
-  pub all : AnswersAll users inlet outlet before now None
+pub record Rests (users : List User) (framer : FramerParts) (told : LinkTold) : Type 0 where
+  pub all : AnswersAll users told None
   pub stands : StandsFor framer all.octets (messages_of all.octets)
-  pub counted : Counted 0 0 0 inlet outlet
+  pub counted : Counted 0 0 0 told.inlet told.outlet
 
 -- the run goes on, or ends with this status
-abbrev pub KeepsAnswering : Option Status → List User → FramerParts → Inlet → Outlet → Option (List ℕ) → Option (List ℕ) → Type 0
-KeepsAnswering None users framer inlet outlet before now = Rests users framer inlet outlet before now
-KeepsAnswering (Some status) users framer inlet outlet before now = StopsBy status users inlet outlet before now
+abbrev pub KeepsAnswering : Option Status → List User → FramerParts → LinkTold → Type 0
+KeepsAnswering None users framer told = Rests users framer told
+KeepsAnswering (Some status) users framer told = StopsBy status users told

@@ -76,7 +76,12 @@ fn take_message<O: LinkOut, K: Sink>(
 ) -> Option<Status>
     ensures users { home.new ≡ home.old }
     ensures takes { Takes result (answer_octets home.old message.now) (line_of home.old message.now)
-        (O.told link.old) (O.told link.new) (K.written output.old) (K.written output.new) }
+        (record {
+          outlet = O.told link.old;
+          outlet' = O.told link.new;
+          output = K.written output.old;
+          output' = K.written output.new;
+        }) }
     ensures fault { result ≡ Some Status.WriteFault
         → Rose (K.faults output.old) (K.faults output.new) }
     ensures faults_stay { K.faults output.old ≤ K.faults output.new }
@@ -110,9 +115,18 @@ fn take_messages<R: Wait, O: LinkOut, K: Sink>(
 ) -> Option<Status>
     ensures users { home.new ≡ home.old }
     ensures answers { (inlet : Inlet) (before : Option (List ℕ))
-        → SoFar home.old [] framer.old inlet (O.told link.old) before (K.written output.old)
-        → KeepsAnswering result home.old framer.new inlet (O.told link.new) before
-        (K.written output.new) }
+        → SoFar home.old [] framer.old (record {
+          inlet = inlet;
+          outlet = O.told link.old;
+          output = before;
+          output' = K.written output.old;
+        })
+        → KeepsAnswering result home.old framer.new (record {
+          inlet = inlet;
+          outlet = O.told link.new;
+          output = before;
+          output' = K.written output.new;
+        }) }
     ensures fault { result ≡ Some Status.WriteFault
         → Rose (K.faults output.old) (K.faults output.new) }
     ensures faults_stay { K.faults output.old ≤ K.faults output.new }
@@ -144,9 +158,18 @@ fn take_piece<R: Wait, O: LinkOut, K: Sink>(
 ) -> Option<Status>
     ensures users { home.new ≡ home.old }
     ensures answers { (inlet : Inlet) (before : Option (List ℕ))
-        → SoFar home.old piece.now framer.old inlet (O.told link.old) before (K.written output.old)
-        → KeepsAnswering result home.old framer.new inlet (O.told link.new) before
-        (K.written output.new) }
+        → SoFar home.old piece.now framer.old (record {
+          inlet = inlet;
+          outlet = O.told link.old;
+          output = before;
+          output' = K.written output.old;
+        })
+        → KeepsAnswering result home.old framer.new (record {
+          inlet = inlet;
+          outlet = O.told link.new;
+          output = before;
+          output' = K.written output.new;
+        }) }
     ensures fault { result ≡ Some Status.WriteFault
         → Rose (K.faults output.old) (K.faults output.new) }
     ensures faults_stay { K.faults output.old ≤ K.faults output.new }
@@ -169,10 +192,18 @@ fn look<R: Wait, I: LinkIn, O: LinkOut, K: Sink>(
 ) -> Option<Status>
     ensures users { home.new ≡ home.old }
     ensures answers { (before : Option (List ℕ))
-        → Rests home.old framer.old (I.told link.old.0) (O.told link.old.1) before
-        (K.written output.old)
-        → KeepsAnswering result home.old framer.new (I.told link.new.0) (O.told link.new.1) before
-        (K.written output.new) }
+        → Rests home.old framer.old (record {
+          inlet = I.told link.old.0;
+          outlet = O.told link.old.1;
+          output = before;
+          output' = K.written output.old;
+        })
+        → KeepsAnswering result home.old framer.new (record {
+          inlet = I.told link.new.0;
+          outlet = O.told link.new.1;
+          output = before;
+          output' = K.written output.new;
+        }) }
     ensures fault { result ≡ Some Status.WriteFault
         → Rose (K.faults output.old) (K.faults output.new) }
     ensures faults_stay { K.faults output.old ≤ K.faults output.new }
@@ -203,7 +234,12 @@ fn answer_link<R: Wait, I: LinkIn, O: LinkOut, K: Sink, C: Clock>(
     requires fresh { IsFreshInlet (I.told link.old.0) × IsFreshOutlet (O.told link.old.1) }
     ensures runs { RunsBy result home.old (Early until (C.readings clock.old)
         (C.readings clock.new)) (Late until (C.readings clock.old) (C.readings clock.new))
-        (I.told link.new.0) (O.told link.new.1) (K.written output.old) (K.written output.new) }
+        (record {
+          inlet = I.told link.new.0;
+          outlet = O.told link.new.1;
+          output = K.written output.old;
+          output' = K.written output.new;
+        }) }
     ensures fault { result ≡ Status.WriteFault → Rose (K.faults output.old) (K.faults output.new) }
 {
     let mut framer = Framer::new(alloc);

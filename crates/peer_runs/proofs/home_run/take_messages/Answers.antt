@@ -2,7 +2,7 @@ use Rattle.std.proofs.Common.{ℕ, ◌≤◌, List, [], Some, None, ◌∙◌, s
 use Rattle.diameter_message.specs.declared.next.Next.{Next}
 use Rattle.test_peers.specs.declared.users.User.{User}
 use Rattle.peer_runs.specs.HomeRuns.{Takes, answer_octets, command_line}
-use Rattle.peer_runs.proofs.HomeRunLemmas.{Gives, stops-broken, stops-wanting, takes-part, takes-whole, waits}
+use Rattle.peer_runs.proofs.HomeRunLemmas.{Gives, stops-broken, stops-wanting, taken, takes-part, takes-whole, waits}
 use Rattle.peer_runs.proofs.home_run.take_messages.Goals as goal
 
 pub returns-in-Err-clause-answers : goal.returns-in-Err-clause-answers
@@ -32,10 +32,10 @@ returns-in-Some-take_message-clause-answers g c = λ inlet before s.
     let then = g.K.Sink.written c.loop.output in
     let now = g.K.Sink.written c.take_message.new.output in
     let gives = subst (λ (n : Next). Gives n framer framer') c.in-Ok-Message.field-0-is (record { stands = c.in-Ok-Message.ensures.stands; fits = c.in-Ok-Message.ensures.stream }) in
-    let takes = subst (λ (m : List ℕ). Takes (Some c.in-Some-take_message.status) (answer_octets c.loop.home m) (command_line c.loop.home m) old new then now)
+    let takes = subst (λ (m : List ℕ). Takes (Some c.in-Some-take_message.status) (answer_octets c.loop.home m) (command_line c.loop.home m) (taken old new then now))
     c.as_slice.ensures c.in-Some-take_message.ensures.takes in
     takes-part c.args.home.now inlet before framer framer' c.in-Ok-Message.message c.in-Some-take_message.status old new then now gives
-    (subst (λ (us : List User). Takes (Some c.in-Some-take_message.status) (answer_octets us c.in-Ok-Message.message) (command_line us c.in-Ok-Message.message) old new then now)
+    (subst (λ (us : List User). Takes (Some c.in-Some-take_message.status) (answer_octets us c.in-Ok-Message.message) (command_line us c.in-Ok-Message.message) (taken old new then now))
     c.loop.invariant.users takes)
     (c.loop.invariant.answers inlet before s)
 
@@ -48,7 +48,7 @@ loop-preserved g c =
     let then = g.K.Sink.written c.loop.output in
     let now = g.K.Sink.written c.take_message.new.output in
     let gives = subst (λ (n : Next). Gives n framer framer') c.in-Ok-Message.field-0-is (record { stands = c.in-Ok-Message.ensures.stands; fits = c.in-Ok-Message.ensures.stream }) in
-    let takes = subst (λ (m : List ℕ). Takes None (answer_octets c.loop.home m) (command_line c.loop.home m) old new then now)
+    let takes = subst (λ (m : List ℕ). Takes None (answer_octets c.loop.home m) (command_line c.loop.home m) (taken old new then now))
     c.as_slice.ensures c.in_default.ensures.takes in
     let faults : g.K.Sink.faults c.args.output.now ≤ g.K.Sink.faults c.take_message.new.output = omega (arith, c.loop.invariant.faults, c.take_message.ensures.faults_stay) in
     record {
@@ -56,7 +56,7 @@ loop-preserved g c =
       faults = faults;
       answers = λ inlet before s.
           takes-whole c.args.home.now inlet before framer framer' c.in-Ok-Message.message old new then now gives
-          (subst (λ (us : List User). Takes None (answer_octets us c.in-Ok-Message.message) (command_line us c.in-Ok-Message.message) old new then now)
+          (subst (λ (us : List User). Takes None (answer_octets us c.in-Ok-Message.message) (command_line us c.in-Ok-Message.message) (taken old new then now))
           c.loop.invariant.users takes)
           (c.loop.invariant.answers inlet before s);
     }
