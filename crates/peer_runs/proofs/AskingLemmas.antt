@@ -13,7 +13,14 @@ use Rattle.test_peers.specs.declared.nas.NasOutput.{NasOutput}
 use Rattle.test_peers.specs.declared.nas.NasOutput.TheVariants.{Send, Wait, Reply, GaveUp}
 use Rattle.test_peers.specs.Nas.{NasParts, fresh, nas_after, output_at}
 use Rattle.peer_runs.specs.declared.asking.Target.{Target}
-use Rattle.peer_runs.specs.Asking.{Asked, Asks, BeginsWithNone, BreaksOff, Ends, StepsToEnd, GoesOn, Looks, Moves, Step, StepsOnce, answer_by, answer_in, asked, goes_on, moments, octets_got, output_of, received, sent, sent_by, stepped}
+use Rattle.peer_runs.specs.Asking.{Asked, Asker, AskingTold, Asks, BeginsWithNone, BreaksOff, Ends, StepsToEnd, GoesOn, Looks, Moves, Step, StepsOnce, answer_by, answer_in, asked, goes_on, moments, octets_got, output_of, received, sent, sent_by, stepped}
+
+-- a client and what was told, by their parts in order
+abbrev pub asker : Target → ℕ → List ℕ → Asker
+asker place patience packet = record { place = place; patience = patience; packet = packet }
+
+abbrev pub between : Option (List ℕ) → Option (List ℕ) → Socket → Socket → AskingTold
+between before now s t = record { clock = before; clock' = now; socket = s; socket' = t }
 
 -- ---- one step more
 
@@ -83,14 +90,14 @@ pub record Going (place : Target) (nas here : NasParts) (count : Option ℕ) (bu
   pub at : here ≡ after nas steps
   pub octets : octets_got pending ≡ option_map (λ n. take n buf) count
   pub within : IfSome count (λ n. n ≤ length buf)
-  pub moves : Moves before now s t (moments steps) (received steps ++ option_to_list pending) (sent place nas steps)
+  pub moves : Moves (between before now s t) (moments steps) (received steps ++ option_to_list pending) (sent place nas steps)
 
 -- a client that stepped, and what it did at its last step
 pub record Stepped (place : Target) (nas here : NasParts) (output : NasOutput) (got before now : Option (List ℕ)) (s t : Socket) : Type 0 where
   pub steps : List Step
   pub begins : BeginsWithNone steps
   pub at : here ≡ after nas steps
-  pub moves : Moves before now s t (moments steps) (received steps) (sent place nas steps)
+  pub moves : Moves (between before now s t) (moments steps) (received steps) (sent place nas steps)
   pub on : goes_on output ≡ true → GoesOn nas steps
   pub ends : goes_on output ≡ false → Ends nas steps
   pub answer : answer_in nas steps ≡ answer_by output got None
@@ -108,7 +115,7 @@ going-first place nas buf before s = record {
 }
 
 pub going-step : {place : Target} {nas here : NasParts} {count : Option ℕ} {buf : List ℕ} {before then : Option (List ℕ)} {s t : Socket} (here' : NasParts) (output : NasOutput) (got now : Option (List ℕ)) (u : Socket)
-    → (g : Going place nas here count buf before then s t) → got ≡ option_map (λ n. take n buf) count → StepsOnce output place here here' got then now t u
+    → (g : Going place nas here count buf before then s t) → got ≡ option_map (λ n. take n buf) count → StepsOnce place (record { nas = here; nas' = here'; got = got; output = output }) (between then now t u)
     → Stepped place nas here' output got before now s u
 going-step {place} {nas} {here} {count} {buf} {before} {then} {s} {t} here' output got now u g is once =
     let step : Step = record { moment = once.moment; got = g.pending } in
@@ -158,7 +165,7 @@ going-look {place} {nas} {here} {output} {got} {before} {now} {s} {t} count buf 
 -- ---- at the end
 
 asks-one : {before now : Option (List ℕ)} {s t : Socket} (place : Target) (nas : NasParts) (patience : ℕ) (packet : List ℕ) (steps : List Step) → nas ≡ fresh packet patience
-    → Moves before now s t (moments steps) (received steps) (sent place nas steps) → Asks place patience (asked packet steps ∷ []) before now s t
+    → Moves (between before now s t) (moments steps) (received steps) (sent place nas steps) → Asks place patience (asked packet steps ∷ []) (between before now s t)
 asks-one {before} {now} {s} {t} place nas patience packet steps is moves =
     let one : Asked = asked packet steps in
     record {
@@ -171,7 +178,7 @@ asks-one {before} {now} {s} {t} place nas patience packet steps is moves =
 
 ends-ok : {place : Target} {nas here : NasParts} {got before now : Option (List ℕ)} {s t : Socket} (output : NasOutput) (count : Option ℕ) (buf : List ℕ)
     → (g : Stepped place nas here output got before now s t) → goes_on output ≡ false → answer_by output got None ≡ option_map (λ n. take n buf) count → IfSome count (λ n. n ≤ length buf)
-    → (patience : ℕ) (packet : List ℕ) → nas ≡ fresh packet patience → StepsToEnd place patience packet count before now s t buf
+    → (patience : ℕ) (packet : List ℕ) → nas ≡ fresh packet patience → StepsToEnd (asker place patience packet) count (between before now s t) buf
 ends-ok {place} {nas} {here} {got} {before} {now} {s} {t} output count buf g over is within patience packet made = record {
   steps = g.steps;
   answered = record { begins = g.begins; ends = subst (λ n. Ends n g.steps) made (g.ends over) };
@@ -182,13 +189,13 @@ ends-ok {place} {nas} {here} {got} {before} {now} {s} {t} output count buf g ove
 
 pub ends-reply : {place : Target} {nas here : NasParts} {got before now : Option (List ℕ)} {s t : Socket} (output : NasOutput) (count : Option ℕ) (buf : List ℕ)
     → (g : Stepped place nas here output got before now s t) → output ≡ Reply → got ≡ option_map (λ n. take n buf) count → IfSome count (λ n. n ≤ length buf)
-    → (patience : ℕ) (packet : List ℕ) → nas ≡ fresh packet patience → StepsToEnd place patience packet count before now s t buf
+    → (patience : ℕ) (packet : List ℕ) → nas ≡ fresh packet patience → StepsToEnd (asker place patience packet) count (between before now s t) buf
 ends-reply {got = got} output count buf g is octets within =
     ends-ok output count buf g (ap goes_on is) (ap (λ o. answer_by o got None) is ∙ octets) within
 
 pub ends-none : {place : Target} {nas here : NasParts} {got before now : Option (List ℕ)} {s t : Socket} (output : NasOutput) (buf : List ℕ)
     → (g : Stepped place nas here output got before now s t) → output ≡ GaveUp
-    → (patience : ℕ) (packet : List ℕ) → nas ≡ fresh packet patience → StepsToEnd place patience packet None before now s t buf
+    → (patience : ℕ) (packet : List ℕ) → nas ≡ fresh packet patience → StepsToEnd (asker place patience packet) None (between before now s t) buf
 ends-none {got = got} output buf g is = ends-ok output None buf g (ap goes_on is) (ap (λ o. answer_by o got None) is) tt
 
 none-got : (got : Option Datagram) → octets_got got ≡ None → got ≡ None
@@ -197,7 +204,7 @@ none-got (Some d) e = cc
 
 pub ends-err : {place : Target} {nas here : NasParts} {output : NasOutput} {got before now : Option (List ℕ)} {s t : Socket} (count : Option ℕ) (buf : List ℕ) (u : Socket)
     → (g : Stepped place nas here output got before now s t) → goes_on output ≡ true → Looks count t u buf → count ≡ None
-    → (patience : ℕ) (packet : List ℕ) → nas ≡ fresh packet patience → BreaksOff place patience packet before now s u
+    → (patience : ℕ) (packet : List ℕ) → nas ≡ fresh packet patience → BreaksOff (asker place patience packet) (between before now s u)
 ends-err {place} {nas} {here} {output} {got} {before} {now} {s} {t} count buf u g on looks none patience packet made =
     let nothing : looks.got ≡ None = none-got looks.got (looks.octets ∙ ap (option_map (λ n. take n buf)) none) in
     record {

@@ -28,15 +28,16 @@ use Rattle.peer_runs.specs.declared.asking.Target.{Target}
 use Rattle.peer_runs.specs.Asking.{Asked, Asks, IsAnswered, moments, received, sent}
 use Rattle.test_peers.specs.Nas.{fresh}
 use Rattle.peer_runs.specs.NasRuns.{AreFor, AsksFor, AsksLine, AsksNot, IsBrokenOff, NasBy, NasEnds, NasTold, line_by, nas_task, status_at}
+use Rattle.peer_runs.proofs.AskingLemmas.{between}
 use Rattle.peer_runs.proofs.NasLemmas.{AreAll, AreAll-push, adds, are-for, are-for-more, bad-line, is-task, longer-stop, longer-text, no-bad, text-so-far, too-long}
 
 -- ---- what the devices told
 
-asks-none : (place : Target) (patience : ℕ) (known : Option (List ℕ)) (s : Socket) → Asks place patience [] known known s s
+asks-none : (place : Target) (patience : ℕ) (known : Option (List ℕ)) (s : Socket) → Asks place patience [] (between known known s s)
 asks-none place patience known s = record { readings = Adds-none known; received = Adds-none s.received; handed = Adds-none s.handed }
 
-asks-append : {before then now : Option (List ℕ)} {s t u : Socket} (place : Target) (patience : ℕ) (xs ys : List Asked) → Asks place patience xs before then s t
-    → Asks place patience ys then now t u → Asks place patience (xs ++ ys) before now s u
+asks-append : {before then now : Option (List ℕ)} {s t u : Socket} (place : Target) (patience : ℕ) (xs ys : List Asked) → Asks place patience xs (between before then s t)
+    → Asks place patience ys (between then now t u) → Asks place patience (xs ++ ys) (between before now s u)
 asks-append {before} {then} {now} {s} {t} {u} place patience xs ys first more = record {
   readings = subst (Adds before now) (sym (flat_map-append (λ (a : Asked). moments a.steps) xs ys)) (Adds-append first.readings more.readings);
   received = subst (Adds s.received u.received) (sym (flat_map-append (λ (a : Asked). received a.steps) xs ys)) (Adds-append first.received more.received);
@@ -60,7 +61,7 @@ pub record Took (clients : List Asked) (count : ℕ) (lines : List (List ℕ)) :
 pub record RunsOn (place : Target) (patience count : ℕ) (input : Option (List ℕ)) (c : Cutting) (left output output' clock clock' : Option (List ℕ)) (s t : Socket) : Type 0 where
   pub clients : List Asked
   pub answered : AllByRecursion (IsAnswered patience) clients
-  pub told : Asks place patience clients clock clock' s t
+  pub told : Asks place patience clients (between clock clock' s t)
   pub goes : Goes (nas_task patience clients) (Took clients count) input c left output output'
 
 pub runs-first : (place : Target) (patience : ℕ) (c : Cutting) (left output clock : Option (List ℕ)) (s : Socket) → c.held.octets ≡ [] → c.held.passed ≡ 0 → c.longest ≡ 140000
@@ -101,7 +102,7 @@ took-one clients client count lines line took is = record {
 module _ {place : Target} {patience count : ℕ} {input left output output' clock clock' : Option (List ℕ)} {old : Cutting} {s t : Socket}
     (r : RunsOn place patience count input old left output output' clock clock' s t) where
   pub runs-line : (count' : ℕ) (new : Cutting) (then output'' clock'' : Option (List ℕ)) (u : Socket) → TakesRawLine Line (rest_of old left) (rest_of new then) old new → IsUnended new.line
-      → new.longest ≡ old.longest → AsksLine (Ok tt) place patience (one_more count) new.line output' output'' clock' clock'' t u → count' ≡ one_more count
+      → new.longest ≡ old.longest → AsksLine (Ok tt) place patience (one_more count) new.line output' output'' (between clock' clock'' t u) → count' ≡ one_more count
       → RunsOn place patience count' input new then output output'' clock clock'' s u
   runs-line count' new then output'' clock'' u takes unended limit (client, wrote, asks) counts =
       subst (λ n. RunsOn place patience n input new then output output'' clock clock'' s u) (sym counts) (record {
@@ -222,7 +223,7 @@ module _ {place : Target} {patience count : ℕ} {input left output output' cloc
   -- ---- after the last line
 
   pub ends-last-line : (new : Cutting) (then output'' clock'' : Option (List ℕ)) (u : Socket) → TakesRawLine LastLine (rest_of old left) (rest_of new then) old new → IsUnended new.line
-      → new.held.passed + length new.held.octets ≤ most_octets → AsksLine (Ok tt) place patience (one_more count) new.line output' output'' clock' clock'' t u
+      → new.held.passed + length new.held.octets ≤ most_octets → AsksLine (Ok tt) place patience (one_more count) new.line output' output'' (between clock' clock'' t u)
       → NasEnds Done place patience (to then output'' clock'' u)
   ends-last-line new then output'' clock'' u takes unended within (client, wrote, asks) =
       let more = r.clients ++ client ∷ [] in
@@ -245,7 +246,7 @@ module _ {place : Target} {patience count : ℕ} {input left output output' cloc
   module _ (next : RawLine) (new : Cutting) (then clock'' : Option (List ℕ)) (u : Socket) (takes : TakesRawLine next (rest_of old left) (rest_of new then) old new)
       (some : next ≡ End → ⊥) (unended : IsUnended new.line) (within : new.held.passed + length new.held.octets ≤ most_octets) where
     -- no client asked for it
-    ends-unasked : (status : Status) → IsBrokenOff status patience None → Asks place patience [] clock' clock'' t u
+    ends-unasked : (status : Status) → IsBrokenOff status patience None → Asks place patience [] (between clock' clock'' t u)
         → ((X : List ℕ) → input ≡ Some X → NasBy status patience r.clients X then output output')
         → NasEnds status place patience (to then output' clock'' u)
     ends-unasked status whole told ends = record {
@@ -259,7 +260,7 @@ module _ {place : Target} {patience count : ℕ} {input left output output' cloc
     }
 
     -- its client came to its end
-    ends-asked : (status : Status) (output'' : Option (List ℕ)) (client : Asked) → IsBrokenOff status patience None → AsksFor place patience new.line client clock' clock'' t u
+    ends-asked : (status : Status) (output'' : Option (List ℕ)) (client : Asked) → IsBrokenOff status patience None → AsksFor place patience new.line client (between clock' clock'' t u)
         → ((X : List ℕ) → input ≡ Some X → NasBy status patience (r.clients ++ client ∷ []) X then output output'')
         → NasEnds status place patience (to then output'' clock'' u)
     ends-asked status output'' client whole asks ends =
@@ -284,7 +285,7 @@ module _ {place : Target} {patience count : ℕ} {input left output output' cloc
     with status output'' client X is works =
         not-done patience (r.clients ++ client ∷ []) next status X old new left then output'' (with_one patience count r.clients client (known r X is)) takes some unended within works
 
-    bad : (status : Status) → AsksNot status place patience (one_more count) new.line clock' clock'' t u → NasEnds status place patience (to then output' clock'' u)
+    bad : (status : Status) → AsksNot status place patience (one_more count) new.line (between clock' clock'' t u) → NasEnds status place patience (to then output' clock'' u)
     bad (BadTranscript number reason) (same, read, told) =
         ends-unasked (BadTranscript number reason) tt told (λ X is.
         let took = (known r X is).taken in
@@ -318,11 +319,11 @@ module _ {place : Target} {patience count : ℕ} {input left output output' cloc
     bad (LinkEnded cause) not = absurd not
     bad TooLong not = absurd not
 
-    unwritten : (output'' : Option (List ℕ)) (status : Status) → (output'' ≡ output') × AsksNot status place patience (one_more count) new.line clock' clock'' t u
+    unwritten : (output'' : Option (List ℕ)) (status : Status) → (output'' ≡ output') × AsksNot status place patience (one_more count) new.line (between clock' clock'' t u)
         → NasEnds status place patience (to then output'' clock'' u)
     unwritten output'' status (same, not) = subst (λ o. NasEnds status place patience (to then o clock'' u)) (sym same) (bad status not)
 
-    pub ends-undone : (output'' : Option (List ℕ)) (status : Status) → AsksLine (Err status) place patience (one_more count) new.line output' output'' clock' clock'' t u
+    pub ends-undone : (output'' : Option (List ℕ)) (status : Status) → AsksLine (Err status) place patience (one_more count) new.line output' output'' (between clock' clock'' t u)
         → NasEnds status place patience (to then output'' clock'' u)
     ends-undone output'' WriteFault (client, wrote, asks) =
         ends-asked WriteFault output'' client tt asks (λ X is.

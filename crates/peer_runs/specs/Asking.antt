@@ -100,16 +100,23 @@ abbrev pub sent : Target → NasParts → List Step → List Datagram
 sent place nas [] = []
 sent place nas (step ∷ steps) = sent_by place nas.packet (output_of nas step) ++ sent place (stepped nas step) steps
 
+-- What the clock and the socket of clients tell before they asked, and after it (').
+pub record AskingTold : Type 0 where
+  pub clock : Option (List ℕ)
+  pub clock' : Option (List ℕ)
+  pub socket : Socket
+  pub socket' : Socket
+
 -- the readings of a clock, and what a socket received and was handed
-pub record Moves (before now : Option (List ℕ)) (s t : Socket) (times : List ℕ) (got out : List Datagram) : Type 0 where
-  pub readings : Adds before now times
-  pub received : Adds s.received t.received got
-  pub handed : Adds s.handed t.handed out
+pub record Moves (told : AskingTold) (times : List ℕ) (got out : List Datagram) : Type 0 where
+  pub readings : Adds told.clock told.clock' times
+  pub received : Adds told.socket.received told.socket'.received got
+  pub handed : Adds told.socket.handed told.socket'.handed out
 
 -- Clients stepped one after another: the clock was read at each step, what the socket received is what the steps got, and it
 -- was handed a client's packet where that sent it.
-abbrev pub Asks : Target → ℕ → List Asked → Option (List ℕ) → Option (List ℕ) → Socket → Socket → Type 0
-Asks place patience clients before now s t = Moves before now s t
+abbrev pub Asks : Target → ℕ → List Asked → AskingTold → Type 0
+Asks place patience clients told = Moves told
     (flat_map (λ a. moments a.steps) clients)
     (flat_map (λ a. received a.steps) clients)
     (flat_map (λ a. sent place (fresh a.packet patience) a.steps) clients)
@@ -124,29 +131,42 @@ pub record Looks (count : Option ℕ) (s t : Socket) (buf : List ℕ) : Type 0 w
   pub received : Adds s.received t.received (option_to_list got)
   pub handed : t.handed ≡ s.handed
 
--- a step at some moment, with what was got
-pub record StepsOnce (output : NasOutput) (place : Target) (nas nas' : NasParts) (got before now : Option (List ℕ)) (s t : Socket) : Type 0 where
-  pub moment : ℕ
-  pub output_is : output ≡ output_at nas moment got
-  pub after : nas' ≡ nas_after nas moment output
-  pub readings : Adds before now (moment ∷ [])
-  pub received : t.received ≡ s.received
-  pub handed : Adds s.handed t.handed (sent_by place nas.packet output)
+-- A client before a step and after it ('), what it got in the step, and what it put out.
+pub record Stepping : Type 0 where
+  pub nas : NasParts
+  pub nas' : NasParts
+  pub got : Option (List ℕ)
+  pub output : NasOutput
 
--- A client of this packet stepped to its end, with its answer as so many octets of the buffer.
-pub record StepsToEnd (place : Target) (patience : ℕ) (packet : List ℕ) (count : Option ℕ) (before now : Option (List ℕ)) (s t : Socket) (buf : List ℕ) : Type 0 where
+-- a step at some moment
+pub record StepsOnce (place : Target) (step : Stepping) (told : AskingTold) : Type 0 where
+  pub moment : ℕ
+  pub output_is : step.output ≡ output_at step.nas moment step.got
+  pub after : step.nas' ≡ nas_after step.nas moment step.output
+  pub readings : Adds told.clock told.clock' (moment ∷ [])
+  pub received : told.socket'.received ≡ told.socket.received
+  pub handed : Adds told.socket.handed told.socket'.handed (sent_by place step.nas.packet step.output)
+
+-- where a client sends this packet, and for how long it asks
+pub record Asker : Type 0 where
+  pub place : Target
+  pub patience : ℕ
+  pub packet : List ℕ
+
+-- A client stepped to its end, with its answer as so many octets of the buffer.
+pub record StepsToEnd (asker : Asker) (count : Option ℕ) (tells : AskingTold) (buf : List ℕ) : Type 0 where
   pub steps : List Step
-  pub answered : IsAnswered patience (asked packet steps)
-  pub told : Asks place patience (asked packet steps ∷ []) before now s t
-  pub answer : answer_of patience (asked packet steps) ≡ option_map (λ n. take n buf) count
+  pub answered : IsAnswered asker.patience (asked asker.packet steps)
+  pub told : Asks asker.place asker.patience (asked asker.packet steps ∷ []) tells
+  pub answer : answer_of asker.patience (asked asker.packet steps) ≡ option_map (λ n. take n buf) count
   pub within : IfSome count (λ n. n ≤ length buf)
 
--- a client of this packet was broken off
-pub record BreaksOff (place : Target) (patience : ℕ) (packet : List ℕ) (before now : Option (List ℕ)) (s t : Socket) : Type 0 where
+-- a client was broken off
+pub record BreaksOff (asker : Asker) (tells : AskingTold) : Type 0 where
   pub steps : List Step
-  pub unanswered : IsUnanswered patience (asked packet steps)
-  pub told : Asks place patience (asked packet steps ∷ []) before now s t
+  pub unanswered : IsUnanswered asker.patience (asked asker.packet steps)
+  pub told : Asks asker.place asker.patience (asked asker.packet steps ∷ []) tells
 
-abbrev pub EndsAsking : Result (Option ℕ) Status → Target → ℕ → List ℕ → Option (List ℕ) → Option (List ℕ) → Socket → Socket → List ℕ → Type 0
-EndsAsking (Ok count) place patience packet before now s t buf = StepsToEnd place patience packet count before now s t buf
-EndsAsking (Err status) place patience packet before now s t buf = BreaksOff place patience packet before now s t
+abbrev pub EndsAsking : Result (Option ℕ) Status → Asker → AskingTold → List ℕ → Type 0
+EndsAsking (Ok count) asker tells buf = StepsToEnd asker count tells buf
+EndsAsking (Err status) asker tells buf = BreaksOff asker tells

@@ -16,7 +16,7 @@ use Rattle.test_peers.specs.PacketLines.{packet_in}
 use Rattle.text_commands.specs.Shown.{Shown}
 use Rattle.text_commands.specs.Tasks.{EndsBy, Task, WritesPart}
 use Rattle.peer_runs.specs.declared.asking.Target.{Target}
-use Rattle.peer_runs.specs.Asking.{Asked, Asks, IsAnswered, IsUnanswered, answer_of}
+use Rattle.peer_runs.specs.Asking.{Asked, AskingTold, Asks, IsAnswered, IsUnanswered, answer_of}
 
 -- ---- lines
 
@@ -95,48 +95,53 @@ pub record NasEnds (status : Status) (place : Target) (patience : ℕ) (run : Na
   pub last : Option Asked
   pub answered : AllByRecursion (IsAnswered patience) clients
   pub broken_off : IsBrokenOff status patience last
-  pub told : Asks place patience (clients ++ option_to_list last) run.clock run.clock' run.socket run.socket'
+  pub told : Asks place patience (clients ++ option_to_list last) (record {
+    clock = run.clock;
+    clock' = run.clock';
+    socket = run.socket;
+    socket' = run.socket';
+  })
   pub lines : (X : List ℕ) → run.input ≡ Some X → AreFor (clients ++ option_to_list last) (lines_of X)
   pub ends : (X : List ℕ) → run.input ≡ Some X → NasBy status patience clients X run.input' run.output run.output'
 
 -- ---- one line
 
 -- this client asked for this line, to its end
-pub record AsksFor (place : Target) (patience : ℕ) (line : List ℕ) (client : Asked) (before now : Option (List ℕ)) (s t : Socket) : Type 0 where
+pub record AsksFor (place : Target) (patience : ℕ) (line : List ℕ) (client : Asked) (tells : AskingTold) : Type 0 where
   pub packet : packet_in line ≡ Ok client.packet
   pub answered : IsAnswered patience client
-  pub told : Asks place patience (client ∷ []) before now s t
+  pub told : Asks place patience (client ∷ []) tells
 
 -- the same of one that was broken off
-pub record BreaksOffFor (place : Target) (patience : ℕ) (line : List ℕ) (client : Asked) (before now : Option (List ℕ)) (s t : Socket) : Type 0 where
+pub record BreaksOffFor (place : Target) (patience : ℕ) (line : List ℕ) (client : Asked) (tells : AskingTold) : Type 0 where
   pub packet : packet_in line ≡ Ok client.packet
   pub unanswered : IsUnanswered patience client
-  pub told : Asks place patience (client ∷ []) before now s t
+  pub told : Asks place patience (client ∷ []) tells
 
 -- why a line has no text: it is bad, memory is wanting, or its client was broken off
-abbrev pub AsksNot : Status → Target → ℕ → ℕ → List ℕ → Option (List ℕ) → Option (List ℕ) → Socket → Socket → Type 0
-AsksNot (BadTranscript bad reason) place patience number line before now s t =
-    (bad ≡ number) × (packet_in line ≡ Err reason) × Asks place patience [] before now s t
-AsksNot OutOfMemory place patience number line before now s t =
-    Asks place patience [] before now s t ⊎ ((client : Asked) × AsksFor place patience line client before now s t)
-AsksNot DatagramFault place patience number line before now s t =
-    (client : Asked) × BreaksOffFor place patience line client before now s t
-AsksNot status place patience number line before now s t = ⊥
+abbrev pub AsksNot : Status → Target → ℕ → ℕ → List ℕ → AskingTold → Type 0
+AsksNot (BadTranscript bad reason) place patience number line tells =
+    (bad ≡ number) × (packet_in line ≡ Err reason) × Asks place patience [] tells
+AsksNot OutOfMemory place patience number line tells =
+    Asks place patience [] tells ⊎ ((client : Asked) × AsksFor place patience line client tells)
+AsksNot DatagramFault place patience number line tells =
+    (client : Asked) × BreaksOffFor place patience line client tells
+AsksNot status place patience number line tells = ⊥
 
 -- the text of the line of this number
-abbrev pub AsksText : Result (List ℕ) Status → Target → ℕ → ℕ → List ℕ → Option (List ℕ) → Option (List ℕ) → Socket → Socket → Type 0
-AsksText (Ok text) place patience number line before now s t =
-    (client : Asked) × (text ≡ line_by patience client) × AsksFor place patience line client before now s t
-AsksText (Err status) place patience number line before now s t = AsksNot status place patience number line before now s t
+abbrev pub AsksText : Result (List ℕ) Status → Target → ℕ → ℕ → List ℕ → AskingTold → Type 0
+AsksText (Ok text) place patience number line tells =
+    (client : Asked) × (text ≡ line_by patience client) × AsksFor place patience line client tells
+AsksText (Err status) place patience number line tells = AsksNot status place patience number line tells
 
 -- what was written for it
-abbrev pub AsksLine : Result Unit Status → Target → ℕ → ℕ → List ℕ → Option (List ℕ) → Option (List ℕ) → Option (List ℕ) → Option (List ℕ) → Socket → Socket → Type 0
-AsksLine (Ok done) place patience number line output output' before now s t =
-    (client : Asked) × Appends output output' (line_by patience client) × AsksFor place patience line client before now s t
-AsksLine (Err WriteFault) place patience number line output output' before now s t =
-    (client : Asked) × AppendsPrefix output output' (line_by patience client) × AsksFor place patience line client before now s t
-AsksLine (Err status) place patience number line output output' before now s t =
-    (output' ≡ output) × AsksNot status place patience number line before now s t
+abbrev pub AsksLine : Result Unit Status → Target → ℕ → ℕ → List ℕ → Option (List ℕ) → Option (List ℕ) → AskingTold → Type 0
+AsksLine (Ok done) place patience number line output output' tells =
+    (client : Asked) × Appends output output' (line_by patience client) × AsksFor place patience line client tells
+AsksLine (Err WriteFault) place patience number line output output' tells =
+    (client : Asked) × AppendsPrefix output output' (line_by patience client) × AsksFor place patience line client tells
+AsksLine (Err status) place patience number line output output' tells =
+    (output' ≡ output) × AsksNot status place patience number line tells
 
 -- ---- the reading
 

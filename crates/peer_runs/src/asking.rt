@@ -70,8 +70,14 @@ fn step_once<C: Clock, D: Datagrams>(
     clock: &mut C,
     socket: &mut D,
 ) -> NasOutput
-    ensures steps { StepsOnce result place nas.old nas.new (option_copied got.entry)
-        (C.readings clock.old) (C.readings clock.new) (D.told socket.old) (D.told socket.new) }
+    ensures steps { StepsOnce place
+        (record { nas = nas.old; nas' = nas.new; got = option_copied got.entry; output = result })
+        (record {
+          clock = C.readings clock.old;
+          clock' = C.readings clock.new;
+          socket = D.told socket.old;
+          socket' = D.told socket.new;
+        }) }
     ensures row { (D.told socket.new).row ≡ (D.told socket.old).row }
     ensures faults_stay { (D.told socket.old).faults ≤ (D.told socket.new).faults }
 {
@@ -96,8 +102,13 @@ pub(crate) fn ask<R: Wait, C: Clock, D: Datagrams>(
     requires row { failures.old ≡ (D.told socket.old).row }
     requires few { failures.old < 16 }
     ensures asks { (patience : ℕ) (packet : List ℕ) → nas.old ≡ fresh packet patience
-        → EndsAsking result place patience packet (C.readings clock.old) (C.readings clock.new)
-        (D.told socket.old) (D.told socket.new) buf.new }
+        → EndsAsking result (record { place = place; patience = patience; packet = packet })
+        (record {
+          clock = C.readings clock.old;
+          clock' = C.readings clock.new;
+          socket = D.told socket.old;
+          socket' = D.told socket.new;
+        }) buf.new }
     ensures row { failures.new ≡ (D.told socket.new).row }
     ensures few { OnOk result (failures.new < 16) }
     ensures many { IfErr result (λ status. (status ≡ Status.DatagramFault) × (failures.new ≡ 16)) }

@@ -92,8 +92,12 @@ fn ask_text<R: Wait, C: Clock, D: Datagrams>(
 ) -> Result<Octets, Status>
     requires row { failures.old ≡ (D.told socket.old).row }
     requires few { failures.old < 16 }
-    ensures text { AsksText result place patience number line.now (C.readings clock.old)
-        (C.readings clock.new) (D.told socket.old) (D.told socket.new) }
+    ensures text { AsksText result place patience number line.now (record {
+      clock = C.readings clock.old;
+      clock' = C.readings clock.new;
+      socket = D.told socket.old;
+      socket' = D.told socket.new;
+    }) }
     ensures row { failures.new ≡ (D.told socket.new).row }
     ensures most { failures.new ≤ 16 }
     ensures many { (result ≡ Err Status.DatagramFault) ↔ (failures.new ≡ 16) }
@@ -132,8 +136,12 @@ fn ask_line<R: Wait, K: Sink, C: Clock, D: Datagrams>(
     requires row { counts.old.failures ≡ (D.told socket.old).row }
     requires few { counts.old.failures < 16 }
     ensures line { AsksLine result place patience (one_more counts.old.lines) line.now
-        (K.written output.old) (K.written output.new)
-        (C.readings clock.old) (C.readings clock.new) (D.told socket.old) (D.told socket.new) }
+        (K.written output.old) (K.written output.new) (record {
+          clock = C.readings clock.old;
+          clock' = C.readings clock.new;
+          socket = D.told socket.old;
+          socket' = D.told socket.new;
+        }) }
     ensures lines { OnOk result (counts.new.lines ≡ one_more counts.old.lines) }
     ensures row { counts.new.failures ≡ (D.told socket.new).row }
     ensures most { counts.new.failures ≤ 16 }
