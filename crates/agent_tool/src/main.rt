@@ -88,7 +88,7 @@ home is a home server for tests: it listens for one link, knows users by lines '
 prints the command of each message that it answers. nas is a client for tests: it sends each packet, a line of HEX, until
 it is answered, and prints 'reply HEX', or 'none' after MILLIS milliseconds.
 
-exit statuses: 0 done, 1 other words, 2 settings with a fault, 3 a line that may not stand where it stands,
+exit statuses: 0 done, 1 other words, 2 settings with a fault, 3 a line that isn't allowed where it is,
 4 the input failed, 5 the output failed, 6 no link, 7 a link that the home server refused, 8 no thread, 9 no memory,
 10 a socket failed, 11 too many links ended, 12 an input that is too long, 14 no random octets
 
