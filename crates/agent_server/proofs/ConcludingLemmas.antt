@@ -194,7 +194,23 @@ module _ {C D I O : Type 0} (readings : C → Option (List ℕ)) (told : D → S
 
   pub all-served : (base : RunBase) (dials dials' dials'' : Dials) (starts starts' : ℕ) (auth acct : Socket) (k k' m : Known (AgentDesk C) Input Heard) (end : RunEnd)
       (twins : Twins D) (past : Past I O) (auth_back acct_back : SocketBack C D) (desk : AgentDesk C) (last : DeskEnd C) (trail : Trail C D I O) (status : Status)
-      → AllDone readings told hears speaks base dials dials' dials'' starts starts' auth acct k k' end twins past auth_back acct_back
+      → AllDone readings told hears speaks (record {
+        base = base;
+        dials = dials;
+        dials' = dials';
+        dials'' = dials'';
+        starts = starts;
+        starts' = starts';
+        auth = auth;
+        acct = acct;
+        k = k;
+        k' = k';
+        end = end;
+        twins = twins;
+        past = past;
+        auth_back = auth_back;
+        acct_back = acct_back;
+      })
       → Closes base end k' m twins past auth_back acct_back desk last trail status
       → Served readings told hears speaks (record {
         config = base.config;
@@ -289,7 +305,23 @@ module _ {C D : Type 0} (told : D → Socket) where
       → NoNextLink hears speaks told end dials' dials'' (Rose starts middle) k k' twins past → StopsFor end dials''.row starts middle → starts' ≡ middle
       → StartsFor told Auth 1 k auth auth_reader → StartsFor told Acct 2 k acct acct_reader
       → IsSocketBack told (Ok auth_reader) auth_back → IsSocketBack told (Ok acct_reader) acct_back
-      → AllDone readings told hears speaks base dials dials' dials'' starts starts' auth acct k k' end twins past auth_back acct_back
+      → AllDone readings told hears speaks (record {
+        base = base;
+        dials = dials;
+        dials' = dials';
+        dials'' = dials'';
+        starts = starts;
+        starts' = starts';
+        auth = auth;
+        acct = acct;
+        k = k;
+        k' = k';
+        end = end;
+        twins = twins;
+        past = past;
+        auth_back = auth_back;
+        acct_back = acct_back;
+      })
   all-done readings hears speaks base dials dials' dials'' starts middle starts' auth acct k k' end twins past auth_reader acct_reader auth_back acct_back
       carries dialled grows ends stops same auth_starts acct_starts auth_is acct_is = record {
         carries = carries;

@@ -183,15 +183,32 @@ module _ {C D : Type 0} (told : D → Socket) where
 
 -- ---- the end
 
--- All workers are done: what the writer knew when they were started and knows now, and what each gave back. `dials` are the
--- dialer's counts at first, when the workers were started, and now; `starts` are the crew's counts of refused starts.
-pub record AllDone {C D I O : Type 0} (readings : C → Option (List ℕ)) (told : D → Socket) (hears : I → Inlet) (speaks : O → Outlet) (base : RunBase)
-    (dials dials' dials'' : Dials) (starts starts' : ℕ) (auth acct : Socket) (k k' : Known (AgentDesk C) Input Heard) (end : RunEnd) (twins : Twins D) (past : Past I O)
-    (auth_back acct_back : SocketBack C D) : Type 0 where
-  pub carries : Carries (StandsBy readings) k base
-  pub dialled : RoseBy (ticks (of 0 k.seen)) dials.faults dials'.faults
-  pub grows : dials.faults ≤ dials'.faults
-  pub ends : NoNextLink hears speaks told end dials' dials'' (Rose starts starts') k k' twins past
-  pub stops : StopsFor end dials''.row starts starts'
-  pub auth_done : SocketDone told Auth 1 k auth auth_back
-  pub acct_done : SocketDone told Acct 2 k acct acct_back
+-- The end of all workers of a run: what the writer knew when they were started and knows now, how the links ended, and what
+-- each reader gave back. `dials` are the dialer's counts at first, when the workers were started, and now; `starts` are the
+-- crew's counts of refused starts.
+pub record TeamEnd (C D I O : Type 0) : Type 0 where
+  pub base : RunBase
+  pub dials : Dials
+  pub dials' : Dials
+  pub dials'' : Dials
+  pub starts : ℕ
+  pub starts' : ℕ
+  pub auth : Socket
+  pub acct : Socket
+  pub k : Known (AgentDesk C) Input Heard
+  pub k' : Known (AgentDesk C) Input Heard
+  pub end : RunEnd
+  pub twins : Twins D
+  pub past : Past I O
+  pub auth_back : SocketBack C D
+  pub acct_back : SocketBack C D
+
+-- all workers are done
+pub record AllDone {C D I O : Type 0} (readings : C → Option (List ℕ)) (told : D → Socket) (hears : I → Inlet) (speaks : O → Outlet) (team : TeamEnd C D I O) : Type 0 where
+  pub carries : Carries (StandsBy readings) team.k team.base
+  pub dialled : RoseBy (ticks (of 0 team.k.seen)) team.dials.faults team.dials'.faults
+  pub grows : team.dials.faults ≤ team.dials'.faults
+  pub ends : NoNextLink hears speaks told team.end team.dials' team.dials'' (Rose team.starts team.starts') team.k team.k' team.twins team.past
+  pub stops : StopsFor team.end team.dials''.row team.starts team.starts'
+  pub auth_done : SocketDone told Auth 1 team.k team.auth team.auth_back
+  pub acct_done : SocketDone told Acct 2 team.k team.acct team.acct_back

@@ -188,8 +188,23 @@ where
     ensures twins { IfSome result.trail (λ trail. twins_of trail ≡ twins) }
     ensures served { (base : RunBase) (first then last : Dials) (starts now : ℕ)
         (auth_socket acct_socket : Socket) (k : Known (AgentDesk C) Input Heard)
-        → AllDone C.readings D.told I.told O.told base first then last starts now auth_socket
-        acct_socket k (known pass) end twins past auth acct
+        → AllDone C.readings D.told I.told O.told (record {
+          base = base;
+          dials = first;
+          dials' = then;
+          dials'' = last;
+          starts = starts;
+          starts' = now;
+          auth = auth_socket;
+          acct = acct_socket;
+          k = k;
+          k' = known pass;
+          end = end;
+          twins = twins;
+          past = past;
+          auth_back = auth;
+          acct_back = acct;
+        })
         → IfSome result.trail (λ trail. Served C.readings D.told I.told O.told (record {
           config = base.config;
           until = base.until;
