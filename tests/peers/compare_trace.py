@@ -106,7 +106,8 @@ def value(proto, name):
 
 def captured(path, server):
     links = set()
-    pdml = subprocess.run(["tshark", "-r", path, "-d", "tcp.port==3868,diameter", "-Y", "radius or diameter", "-T", "pdml"],
+    # A packet that found no port is quoted by an ICMP message too.
+    pdml = subprocess.run(["tshark", "-r", path, "-d", "tcp.port==3868,diameter", "-Y", "(radius or diameter) and not icmp", "-T", "pdml"],
                           capture_output=True, check=True).stdout
     for packet in tree.fromstring(pdml):
         protos = {proto.get("name"): proto for proto in packet}
