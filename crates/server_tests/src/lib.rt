@@ -1,5 +1,5 @@
-//! Tests of what no command of the program shows: threads at a turnstile, the devices, the server over devices that wait for
-//! one another or fail, and the runs of the test peers over such.
+//! Tests of what no command of the program shows: threads at a turnstile, the devices, and the server over devices that wait
+//! for one another or fail.
 #![tactic(auto)]
 
 #[cfg(test)]
@@ -9,11 +9,7 @@ mod crews;
 #[cfg(test)]
 mod datagrams;
 #[cfg(test)]
-mod home_runs;
-#[cfg(test)]
 mod links;
-#[cfg(test)]
-mod nas_runs;
 #[cfg(test)]
 mod served_lines;
 #[cfg(test)]

@@ -1,7 +1,8 @@
 -- How `serve` ends.
-use Rattle.std.proofs.Common.{◌≡◌, ℕ, ◌⊎◌, inl, inr, List, [], ◌∷◌, ◌++◌, Option, Some, None, IfSome, IfNone, refl, sym, ap, ◌∙◌, subst}
-use Rattle.std.proofs.lemmas.List.{append-nil}
+use Rattle.std.proofs.Common.{◌≡◌, ℕ, ◌⊎◌, inl, inr, List, [], ◌∷◌, ◌++◌, length, arith, Option, Some, None, IfSome, IfNone, refl, sym, ap, ◌∙◌, subst}
+use Rattle.std.proofs.lemmas.List.{append-nil, length-append}
 use Rattle.wire_core.specs.Counts.{Rose}
+use Rattle.wire_core.proofs.SourceLaws.{Consumes-told}
 use Rattle.agent_settings.specs.declared.config.Config.{Config}
 use Rattle.agent_settings.specs.Config.{InLimits, are_settings_in_limits}
 use Rattle.peer_machine.specs.declared.LinkCause.{LinkCause}
@@ -14,12 +15,15 @@ use Rattle.wire_devices.specs.Telling.{Adds}
 use Rattle.agent_server.specs.Desks.{AreRead, HasRead}
 use Rattle.server_workers.specs.Entries.{RunTurn}
 use Rattle.agent_server.specs.Server.{Because, EndsEarly}
+use Rattle.agent_settings.specs.declared.fault.ConfigFault.{ConfigFault}
+use Rattle.text_commands.specs.SettingsInput.{SettingsNot}
 use Rattle.text_commands.specs.Tasks.{EndsCounts}
 use Rattle.agent_core.specs.Places.{Event}
 use Rattle.agent_server.specs.declared.server.Finish.{Finish}
 use Rattle.agent_server.specs.declared.server.World.{World}
 use Rattle.agent_server.specs.Ran.{HasToldOnly, RanFrom, Run, run_by}
 use Rattle.socket_commands.specs.Serves.{HasToldFirst, IsRunEnd, IsSoundEnd, Reports, after_failure}
+use Rattle.socket_commands.specs.Streams.{HasSettings, InputTold}
 
 pub either : {A B C : Type 0} → (A → C) → (B → C) → A ⊎ B → C
 either f g (inl a) = f a
@@ -63,6 +67,41 @@ counts-read (PeerRefused code) a a' b b' d d' read ended wrote = tt
 counts-read NoThread a a' b b' d d' read ended wrote = tt
 counts-read DatagramFault a a' b b' d d' read ended wrote = tt
 counts-read (LinkEnded cause) a a' b b' d d' read ended wrote = tt
+
+-- no settings were read
+pub counts-unread : (status : Status) (told left : Option (List ℕ)) (a a' b b' d d' : ℕ) → SettingsNot status told left → (status ≡ ReadFault → Rose b b')
+    → ((fault : ConfigFault) → status ≡ BadConfig fault → Rose a a') → EndsCounts status a a' b b' d d'
+counts-unread (BadConfig fault) told left a a' b b' d d' not read refused = refused fault refl
+counts-unread ReadFault told left a a' b b' d d' not read refused = read refl
+counts-unread OutOfMemory told left a a' b b' d d' not read refused = tt
+counts-unread TooLong told left a a' b b' d d' not read refused = tt
+counts-unread Done told left a a' b b' d d' not read refused = absurd not
+counts-unread Usage told left a a' b b' d d' not read refused = absurd not
+counts-unread LinkFault told left a a' b b' d d' not read refused = absurd not
+counts-unread (PeerRefused code) told left a a' b b' d d' not read refused = absurd not
+counts-unread NoThread told left a a' b b' d d' not read refused = absurd not
+counts-unread DatagramFault told left a a' b b' d d' not read refused = absurd not
+counts-unread (LinkEnded cause) told left a a' b b' d d' not read refused = absurd not
+counts-unread (BadTranscript line reason) told left a a' b b' d d' not read refused = absurd not
+counts-unread WriteFault told left a a' b b' d d' not read refused = absurd not
+
+pub sound-unread : (status : Status) (input : InputTold) → SettingsNot status input.left input.left' → (status ≡ ReadFault → Rose input.faults input.faults')
+    → HasSettings input → (Rose input.faults input.faults' → ⊥) → IsSoundEnd status
+sound-unread (BadConfig fault) input not read has reads = absurd (cc (has.read, (not has.octets has.is_told).1))
+sound-unread ReadFault input not read has reads = absurd (reads (read refl))
+sound-unread OutOfMemory input not read has reads = tt
+sound-unread TooLong input (octets, taken, many) read has reads =
+    let (ys, still, cut) = Consumes-told taken has.octets has.is_told in
+    absurd (omega (arith, has.short, many, ap length cut, length-append octets ys))
+sound-unread Done input not read has reads = absurd not
+sound-unread Usage input not read has reads = absurd not
+sound-unread LinkFault input not read has reads = absurd not
+sound-unread (PeerRefused code) input not read has reads = absurd not
+sound-unread NoThread input not read has reads = absurd not
+sound-unread DatagramFault input not read has reads = absurd not
+sound-unread (LinkEnded cause) input not read has reads = absurd not
+sound-unread (BadTranscript line reason) input not read has reads = absurd not
+sound-unread WriteFault input not read has reads = absurd not
 
 -- ---- a run by settings
 

@@ -1,3 +1,4 @@
+pub mod Streams
 pub mod PeerEnds
 pub mod Serves
 pub mod Records

@@ -14,8 +14,12 @@ use Rattle.transcript.specs.Records.{record_text}
 use Rattle.agent_server.specs.declared.server.Finish.{Finish}
 use Rattle.agent_server.specs.declared.server.World.{World}
 use Rattle.agent_server.specs.Ran.{status_recorded}
-use Rattle.text_commands.specs.SettingsInput.{SettingsTaken}
-use Rattle.socket_commands.specs.Serves.{RanFor, with_boot}
+use Rattle.text_commands.specs.SettingsInput.{SettingsNot, SettingsTaken}
+use Rattle.text_commands.specs.Tasks.{EndsCounts}
+use Rattle.socket_commands.specs.declared.recording.CommandEnd.{CommandEnd}
+use Rattle.socket_commands.specs.declared.recording.Tape.{Tape}
+use Rattle.socket_commands.specs.Serves.{IsSoundEnd, RanFor, with_boot}
+use Rattle.socket_commands.specs.Streams.{HasSettings, InputTold, NoDeviceFailed}
 
 -- the text of a record: the lines of the settings, and then one for each of these events
 abbrev pub text_recorded : Config → List Event → List ℕ
@@ -37,9 +41,26 @@ pub record TapeTold : Type 0 where
   pub starts' : ℕ
   pub closed : Option ℕ
 
+module _ {C D L W I O Q T V : Type 0} (written : T → Option (List ℕ)) (writes : T → ℕ) (starts : V → ℕ) where
+  abbrev pub tape_told : Tape Q T V → CommandEnd C D L W Q T V I O → TapeTold
+  tape_told tape end = record {
+    output = written tape.writer.sink;
+    output' = written end.tape.writer.sink;
+    writes = writes tape.writer.sink;
+    writes' = writes end.tape.writer.sink;
+    starts = starts tape.crew;
+    starts' = starts end.tape.crew;
+    closed = end.closed;
+  }
+
 -- the world is as it was, but for its clock
 abbrev pub IsAsItWas : {C D L W : Type 0} → World C D L W → World C D L W → Type 0
 IsAsItWas world world' = world' ≡ record { clock = world'.clock; auth = world.auth; acct = world.acct; dialer = world.dialer; crew = world.crew }
+
+-- nothing was done
+abbrev pub IsUntouched : {C D L W I O Q T V : Type 0} → World C D L W → Tape Q T V → CommandEnd C D L W Q T V I O → Type 0
+IsUntouched world tape end =
+    end ≡ record { finish = record { status = end.finish.status; world = world; trail = None; home = None }; tape = tape; closed = None }
 
 -- no run began: the settings couldn't be written, or the thread that writes couldn't be started
 pub record RecordNot {C D L W I O : Type 0} (config : Config) (world : World C D L W) (finish : Finish C D L W I O) (tape : TapeTold) : Type 0 where
@@ -63,8 +84,20 @@ module _ {C D L W I O : Type 0} (readings : C → Option (List ℕ)) (told : D �
   abbrev pub RecordsBy : Config → ℕ → World C D L W → Finish C D L W I O → TapeTold → Type 0
   RecordsBy config millis world finish tape = RecordNot config world finish tape ⊎ RecordRan config millis world finish tape
 
-  -- the same by the settings of the input, of which so much was left before and after it
-  pub record Recorded (millis : ℕ) (input : Option (List ℕ) × Option (List ℕ)) (world : World C D L W) (finish : Finish C D L W I O) (tape : TapeTold) : Type 0 where
+  -- the same by the settings of the input
+  pub record Recorded (millis : ℕ) (input : InputTold) (world : World C D L W) (finish : Finish C D L W I O) (tape : TapeTold) : Type 0 where
     pub config : Config
-    pub settings : SettingsTaken config input.0 input.1
+    pub settings : SettingsTaken config input.left input.left'
     pub recorded : RecordsBy config millis world finish tape
+
+  module _ {Q T V : Type 0} (written : T → Option (List ℕ)) (writes : T → ℕ) (starts : V → ℕ) where
+    -- What `record` promises: the run and its record, or why there was none; which count rose, by the status, and what is left
+    -- of the statuses where the input has settings and nothing failed, both where the record isn't short.
+    pub record RecordEnded (millis : ℕ) (input : InputTold) (world : World C D L W) (tape : Tape Q T V) (end : CommandEnd C D L W Q T V I O) : Type 0 where
+      pub recorded : (SettingsNot end.finish.status input.left input.left' × IsUntouched world tape end)
+          ⊎ Recorded millis input world end.finish (tape_told written writes starts tape end)
+      pub counts : end.closed ≡ None → EndsCounts end.finish.status input.ends input.ends' input.faults input.faults'
+          (writes tape.writer.sink) (writes end.tape.writer.sink)
+      pub complete : HasSettings input → ¬ Rose input.faults input.faults' → end.closed ≡ None
+          → ¬ Rose (writes tape.writer.sink) (writes end.tape.writer.sink) → ¬ Rose (starts tape.crew) (starts end.tape.crew)
+          → NoDeviceFailed told dials faults world end.finish.world → IsSoundEnd end.finish.status

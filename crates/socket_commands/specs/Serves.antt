@@ -16,7 +16,9 @@ use Rattle.agent_server.specs.Desks.{HasRead}
 use Rattle.agent_server.specs.Ran.{IsAny, RanFrom, run_by}
 use Rattle.agent_server.specs.Server.{rank}
 use Rattle.text_commands.specs.SettingsInput.{SettingsNot, SettingsTaken}
+use Rattle.text_commands.specs.Tasks.{EndsCounts}
 use Rattle.peer_runs.specs.Until.{until_of}
+use Rattle.socket_commands.specs.Streams.{HasSettings, NoDeviceFailed, NoStreamFailed, StreamsTold}
 
 -- ---- what a run begins from
 
@@ -47,41 +49,6 @@ Reports end status line before now faults faults' =
 abbrev pub HasToldFirst : Option (List ℕ) → ℕ → List ℕ → Type 0
 HasToldFirst told first readings = (before : List ℕ) × HasRead told before [] × (readings ≡ before ++ first ∷ [])
 
--- what an input and an output tell before a run and after it: what is left of the input, what was written to the output, and
--- how many of its writes failed
-pub record StreamsTold : Type 0 where
-  pub input : Option (List ℕ)
-  pub input' : Option (List ℕ)
-  pub output : Option (List ℕ)
-  pub output' : Option (List ℕ)
-  pub writes : ℕ
-  pub writes' : ℕ
-
-module _ {C D L W I O : Type 0} (readings : C → Option (List ℕ)) (told : D → Socket) (hears : I → Inlet) (speaks : O → Outlet)
-    (dials : L → Dials) (made : L → ℕ) (faults started : W → ℕ) where
-  -- The server ran by these settings up to so long after the clock's first reading. `has` is what holds then of the entries
-  -- that a record of the run has.
-  pub record RanFor (config : Config) (millis : ℕ) (world : World C D L W) (finish : Finish C D L W I O) (has : ℕ → List Event → Type 0) : Type 0 where
-    pub first : ℕ
-    pub ran : RanFrom readings told hears speaks dials made faults started (HasToldFirst (readings world.clock) first)
-        (run_by (with_boot first config) (until_of first millis) world finish) (has first)
-
-  -- Settings were read from the input, and the server ran by them. Where its workers were started the line that tells of it
-  -- was written.
-  pub record RanServer (millis : ℕ) (streams : StreamsTold) (world : World C D L W) (finish : Finish C D L W I O) : Type 0 where
-    pub config : Config
-    pub settings : SettingsTaken config streams.input streams.input'
-    pub end : Status
-    pub run : RanFor config millis world (record finish { status = end }) (λ first. IsAny)
-    pub reported : IfSome finish.trail
-        (λ t. Reports end finish.status (served_line t.entries t.lost) streams.output streams.output' streams.writes streams.writes')
-    pub unreported : IfNone finish.trail (finish.status ≡ end)
-
-  -- the settings of the input could be read and the server ran, or they couldn't and nothing was done
-  abbrev pub ServesBy : ℕ → StreamsTold → World C D L W → Finish C D L W I O → Type 0
-  ServesBy millis streams world finish =
-      (SettingsNot finish.status streams.input streams.input' × (finish.world ≡ world) × (finish.trail ≡ None)) ⊎ RanServer millis streams world finish
-
 -- how a run ends that began
 abbrev pub IsRunEnd : Status → Type 0
 IsRunEnd Usage = ⊥
@@ -98,3 +65,38 @@ IsSoundEnd OutOfMemory = Unit {0}
 IsSoundEnd (PeerRefused code) = Unit {0}
 IsSoundEnd (LinkEnded cause) = Unit {0}
 IsSoundEnd status = ⊥
+
+module _ {C D L W I O : Type 0} (readings : C → Option (List ℕ)) (told : D → Socket) (hears : I → Inlet) (speaks : O → Outlet)
+    (dials : L → Dials) (made : L → ℕ) (faults started : W → ℕ) where
+  -- The server ran by these settings up to so long after the clock's first reading. `has` is what holds then of the entries
+  -- that a record of the run has.
+  pub record RanFor (config : Config) (millis : ℕ) (world : World C D L W) (finish : Finish C D L W I O) (has : ℕ → List Event → Type 0) : Type 0 where
+    pub first : ℕ
+    pub ran : RanFrom readings told hears speaks dials made faults started (HasToldFirst (readings world.clock) first)
+        (run_by (with_boot first config) (until_of first millis) world finish) (has first)
+
+  -- Settings were read from the input, and the server ran by them. Where its workers were started the line that tells of it
+  -- was written.
+  pub record RanServer (millis : ℕ) (streams : StreamsTold) (world : World C D L W) (finish : Finish C D L W I O) : Type 0 where
+    pub config : Config
+    pub settings : SettingsTaken config streams.input.left streams.input.left'
+    pub end : Status
+    pub run : RanFor config millis world (record finish { status = end }) (λ first. IsAny)
+    pub reported : IfSome finish.trail
+        (λ t. Reports end finish.status (served_line t.entries t.lost) streams.output.written streams.output.written' streams.output.faults
+        streams.output.faults')
+    pub unreported : IfNone finish.trail (finish.status ≡ end)
+
+  -- the settings of the input could be read and the server ran, or they couldn't and nothing was done
+  abbrev pub ServesBy : ℕ → StreamsTold → World C D L W → Finish C D L W I O → Type 0
+  ServesBy millis streams world finish =
+      (SettingsNot finish.status streams.input.left streams.input.left' × (finish.world ≡ world) × (finish.trail ≡ None)) ⊎ RanServer millis streams world finish
+
+  -- What `serve` promises: the run and its line, or why there was none; which count rose, by the status; and what is left of
+  -- the statuses where the input has settings and nothing failed.
+  pub record ServeEnded (millis : ℕ) (streams : StreamsTold) (world : World C D L W) (finish : Finish C D L W I O) : Type 0 where
+    pub served : ServesBy millis streams world finish
+    pub counts : EndsCounts finish.status streams.input.ends streams.input.ends' streams.input.faults streams.input.faults'
+        streams.output.faults streams.output.faults'
+    pub complete : HasSettings streams.input → NoStreamFailed streams → NoDeviceFailed told dials faults world finish.world
+        → IsSoundEnd finish.status

@@ -1,10 +1,8 @@
 //! The commands `home` and `nas`: the peers of the tests over the outside.
 
-ghost use Rattle.std.specs.Prelude.{◌≡◌, ◌≢◌, ◌⊎◌, None};
-ghost use Rattle.wire_core.specs.Counts.{Rose};
-ghost use Rattle.text_commands.specs.Tasks.{EndsCounts};
-ghost use Rattle.peer_runs.specs.HomeRuns.{HomeCounts};
-ghost use Rattle.socket_commands.specs.PeerEnds.{HomeCausedBy, HomeEnds, IsSoundHome, NasRan, TakesAll, link_of};
+ghost use Rattle.std.specs.Prelude.{◌≡◌, ◌≢◌, None};
+ghost use Rattle.socket_commands.specs.PeerEnds.{HomeEnded, NasEnded, link_of};
+ghost use Rattle.socket_commands.specs.Streams.{input_told, output_told};
 
 use agent_server::{Finish, Pair, World};
 use agent_status::Status;
@@ -42,39 +40,10 @@ where
     L: Dialer,
     ensures begun { result.status ≢ Status.Usage }
     ensures trail { result.trail ≡ None }
-    ensures ends { HomeEnds L.In.told L.Out.told result.status result.home (record {
-      millis = millis;
-      input = S.left input.old;
-      input' = S.left input.new;
-      reads = S.faults input.old;
-      reads' = S.faults input.new;
-      dials = L.told world.dialer;
-      dials' = L.told result.world.dialer;
-      clock = C.readings world.clock;
-      clock' = C.readings result.world.clock;
-      output = K.written output.old;
-      output' = K.written output.new;
-    }) }
-    ensures causes { HomeCausedBy L.In.told L.Out.told result.status result.home (record {
-      millis = millis;
-      input = S.left input.old;
-      input' = S.left input.new;
-      reads = S.faults input.old;
-      reads' = S.faults input.new;
-      dials = L.told world.dialer;
-      dials' = L.told result.world.dialer;
-      clock = C.readings world.clock;
-      clock' = C.readings result.world.clock;
-      output = K.written output.old;
-      output' = K.written output.new;
-    }) }
-    ensures counts { HomeCounts result.status (S.faults input.old) (S.faults input.new)
-        (K.faults output.old) (K.faults output.new) }
-    ensures complete { IsSoundHome L.In.told L.Out.told result.home (S.left input.old)
-        → ¬ Rose (S.faults input.old) (S.faults input.new)
-        → ¬ Rose (K.faults output.old) (K.faults output.new)
-        → ¬ Rose (L.told world.dialer).faults (L.told result.world.dialer).faults
-        → (result.status ≡ Status.Done) ⊎ (result.status ≡ Status.OutOfMemory) }
+    ensures ended { HomeEnded C.readings L.In.told L.Out.told L.told millis (record {
+      input = input_told S.left S.ends S.faults input.old input.new;
+      output = output_told K.written K.faults output.old output.new;
+    }) world result }
 {
     let World {
         mut clock,
@@ -118,23 +87,10 @@ where
     requires row { (D.told world.auth).row ≡ 0 }
     ensures begun { result.status ≢ Status.Usage }
     ensures trail { (result.trail ≡ None) × (result.home ≡ None) }
-    ensures ends { NasRan result.status place millis (record {
-      input = S.left input.old;
-      input' = S.left input.new;
-      output = K.written output.old;
-      output' = K.written output.new;
-      clock = C.readings world.clock;
-      clock' = C.readings result.world.clock;
-      socket = D.told world.auth;
-      socket' = D.told result.world.auth;
-    }) }
-    ensures counts { EndsCounts result.status (S.ends input.old) (S.ends input.new)
-        (S.faults input.old) (S.faults input.new)
-        (K.faults output.old) (K.faults output.new) }
-    ensures complete { TakesAll (S.left input.old) → ¬ Rose (S.faults input.old)
-        (S.faults input.new) → ¬ Rose (K.faults output.old) (K.faults output.new)
-        → ¬ Rose (D.told world.auth).faults (D.told result.world.auth).faults
-        → (result.status ≡ Status.Done) ⊎ (result.status ≡ Status.OutOfMemory) }
+    ensures ended { NasEnded C.readings D.told place millis (record {
+      input = input_told S.left S.ends S.faults input.old input.new;
+      output = output_told K.written K.faults output.old output.new;
+    }) world result }
 {
     let World {
         mut clock,

@@ -1,15 +1,11 @@
 //! The command `record`.
 
-ghost use Rattle.std.specs.Prelude.{◌≡◌, ◌≢◌, ◌≤◌, ◌⊎◌, ℕ, List, length, Ok, Some, None};
+ghost use Rattle.std.specs.Prelude.{◌≡◌, ◌≢◌, None};
 ghost use Rattle.wire_core.specs.Counts.{Rose};
-ghost use Rattle.agent_settings.specs.declared.config.Config.{Config};
 ghost use Rattle.agent_settings.specs.Config.{InLimits};
-ghost use Rattle.agent_config.specs.Settings.{settings_in};
-ghost use Rattle.text_commands.specs.SettingsInput.{SettingsNot};
-ghost use Rattle.text_commands.specs.Tasks.{EndsCounts};
-ghost use Rattle.text_commands.specs.WholeInput.{most_whole};
-ghost use Rattle.socket_commands.specs.Records.{Recorded, RecordsBy};
+ghost use Rattle.socket_commands.specs.Records.{RecordEnded, RecordsBy, tape_told};
 ghost use Rattle.socket_commands.specs.Serves.{IsRunEnd, IsSoundEnd};
+ghost use Rattle.socket_commands.specs.Streams.{NoDeviceFailed, input_told};
 
 use crate::serving::{booted, idle};
 use agent_server::{Finish, RecordedRun, Worker, World, record};
@@ -81,25 +77,15 @@ where
     requires sound { tape.writer.faults ≡ 0 }
     ensures home { result.finish.home ≡ None }
     ensures recorded { RecordsBy C.readings D.told L.In.told L.Out.told L.told L.made W.faults
-        W.started config millis world result.finish (record {
-          output = T.written tape.writer.sink;
-          output' = T.written result.tape.writer.sink;
-          writes = T.faults tape.writer.sink;
-          writes' = T.faults result.tape.writer.sink;
-          starts = V.faults tape.crew;
-          starts' = V.faults result.tape.crew;
-          closed = result.closed;
-        }) }
+        W.started config millis world result.finish
+        (tape_told T.written T.faults V.faults tape result) }
     ensures ends { IsRunEnd result.finish.status }
     ensures wrote { result.closed ≡ None → result.finish.status ≡ Status.WriteFault
         → Rose (T.faults tape.writer.sink) (T.faults result.tape.writer.sink) }
     ensures sound { result.closed ≡ None
         → ¬ Rose (T.faults tape.writer.sink) (T.faults result.tape.writer.sink)
-        → ¬ Rose (D.told world.auth).faults (D.told result.finish.world.auth).faults
-        → ¬ Rose (D.told world.acct).faults (D.told result.finish.world.acct).faults
-        → ¬ Rose (L.told world.dialer).faults (L.told result.finish.world.dialer).faults
-        → ¬ Rose (W.faults world.crew) (W.faults result.finish.world.crew)
         → ¬ Rose (V.faults tape.crew) (V.faults result.tape.crew)
+        → NoDeviceFailed D.told L.told W.faults world result.finish.world
         → IsSoundEnd result.finish.status }
 {
     let World {
@@ -181,42 +167,9 @@ where
     requires sound { tape.writer.faults ≡ 0 }
     ensures begun { result.finish.status ≢ Status.Usage }
     ensures home { result.finish.home ≡ None }
-    ensures recorded { (SettingsNot result.finish.status (S.left input.old) (S.left input.new)
-        × (result ≡ record {
-          finish = record {
-            status = result.finish.status;
-            world = world;
-            trail =
-                None;
-            home = None;
-          };
-          tape = tape;
-          closed = None;
-        }))
-        ⊎ Recorded C.readings D.told L.In.told L.Out.told L.told L.made W.faults W.started millis
-        (S.left input.old, S.left input.new) world result.finish (record {
-          output = T.written tape.writer.sink;
-          output' = T.written result.tape.writer.sink;
-          writes = T.faults tape.writer.sink;
-          writes' = T.faults result.tape.writer.sink;
-          starts = V.faults tape.crew;
-          starts' = V.faults result.tape.crew;
-          closed = result.closed;
-        }) }
-    ensures counts { result.closed ≡ None → EndsCounts result.finish.status (S.ends input.old)
-        (S.ends input.new) (S.faults input.old) (S.faults input.new)
-        (T.faults tape.writer.sink) (T.faults result.tape.writer.sink) }
-    ensures complete { (X : List ℕ) (config : Config) → S.left input.old ≡ Some X
-        → settings_in X ≡ Ok config → length X ≤ most_whole
-        → ¬ Rose (S.faults input.old) (S.faults input.new)
-        → result.closed ≡ None
-        → ¬ Rose (T.faults tape.writer.sink) (T.faults result.tape.writer.sink)
-        → ¬ Rose (D.told world.auth).faults (D.told result.finish.world.auth).faults
-        → ¬ Rose (D.told world.acct).faults (D.told result.finish.world.acct).faults
-        → ¬ Rose (L.told world.dialer).faults (L.told result.finish.world.dialer).faults
-        → ¬ Rose (W.faults world.crew) (W.faults result.finish.world.crew)
-        → ¬ Rose (V.faults tape.crew) (V.faults result.tape.crew)
-        → IsSoundEnd result.finish.status }
+    ensures ended { RecordEnded C.readings D.told L.In.told L.Out.told L.told L.made W.faults
+        W.started T.written T.faults V.faults millis
+        (input_told S.left S.ends S.faults input.old input.new) world tape result }
 {
     match take_settings(alloc, input) {
         Ok(config) => record_for(rt, alloc, random, millis, config, world, tape),

@@ -1,15 +1,12 @@
 //! The command `serve`.
 
-ghost use Rattle.std.specs.Prelude.{◌≡◌, ◌≢◌, ◌≤◌, ℕ, List, length, Ok, Err, Some, None, IfSome, IfNone, IfOk};
+ghost use Rattle.std.specs.Prelude.{◌≡◌, ◌≢◌, None, Some, IfSome, IfNone, IfOk};
 ghost use Rattle.wire_core.specs.Counts.{Rose};
-ghost use Rattle.agent_settings.specs.declared.config.Config.{Config};
 ghost use Rattle.agent_settings.specs.Config.{InLimits};
-ghost use Rattle.agent_config.specs.Settings.{settings_in};
 ghost use Rattle.agent_status.specs.declared.status.Status.{Status};
 ghost use Rattle.agent_server.specs.Ran.{IsAny};
-ghost use Rattle.text_commands.specs.Tasks.{EndsCounts};
-ghost use Rattle.text_commands.specs.WholeInput.{most_whole};
-ghost use Rattle.socket_commands.specs.Serves.{IsRunEnd, IsSoundEnd, RanFor, Reports, ServesBy, after_failure, served_line, with_boot};
+ghost use Rattle.socket_commands.specs.Serves.{IsRunEnd, IsSoundEnd, RanFor, Reports, ServeEnded, after_failure, served_line, with_boot};
+ghost use Rattle.socket_commands.specs.Streams.{NoDeviceFailed, input_told, output_told};
 
 use agent_server::{Finish, Worker, World, serve};
 use agent_settings::Config;
@@ -109,11 +106,7 @@ where
     ensures wrote { result.status ≡ Status.WriteFault
         → Rose (K.faults output.old) (K.faults output.new) }
     ensures sound { ¬ Rose (K.faults output.old) (K.faults output.new)
-        → ¬ Rose (D.told world.auth).faults (D.told result.world.auth).faults
-        → ¬ Rose (D.told world.acct).faults (D.told result.world.acct).faults
-        → ¬ Rose (L.told world.dialer).faults (L.told result.world.dialer).faults
-        → ¬ Rose (W.faults world.crew) (W.faults result.world.crew)
-        → IsSoundEnd result.status }
+        → NoDeviceFailed D.told L.told W.faults world result.world → IsSoundEnd result.status }
 {
     let World {
         mut clock,
@@ -179,28 +172,12 @@ where
         × ((L.told world.dialer).row ≡ 0) }
     ensures begun { result.status ≢ Status.Usage }
     ensures home { result.home ≡ None }
-    ensures served { ServesBy C.readings D.told L.In.told L.Out.told L.told L.made W.faults
+    ensures ended { ServeEnded C.readings D.told L.In.told L.Out.told L.told L.made W.faults
         W.started millis (record {
-          input = S.left input.old;
-          input' = S.left input.new;
-          output = K.written output.old;
-          output' = K.written output.new;
-          writes = K.faults output.old;
-          writes' = K.faults output.new;
+          input = input_told S.left S.ends S.faults input.old input.new;
+          output = output_told K.written K.faults output.old output.new;
         }) world result }
     ensures unwritten { IfNone result.trail (output.new ≡ output.old) }
-    ensures counts { EndsCounts result.status (S.ends input.old) (S.ends input.new)
-        (S.faults input.old) (S.faults input.new)
-        (K.faults output.old) (K.faults output.new) }
-    ensures complete { (X : List ℕ) (config : Config) → S.left input.old ≡ Some X
-        → settings_in X ≡ Ok config → length X ≤ most_whole
-        → ¬ Rose (S.faults input.old) (S.faults input.new)
-        → ¬ Rose (K.faults output.old) (K.faults output.new)
-        → ¬ Rose (D.told world.auth).faults (D.told result.world.auth).faults
-        → ¬ Rose (D.told world.acct).faults (D.told result.world.acct).faults
-        → ¬ Rose (L.told world.dialer).faults (L.told result.world.dialer).faults
-        → ¬ Rose (W.faults world.crew) (W.faults result.world.crew)
-        → IsSoundEnd result.status }
 {
     match take_settings(alloc, input) {
         Ok(config) => serve_for(rt, alloc, random, millis, config, output, world),

@@ -78,7 +78,7 @@ returns-clause-wrote g c = λ whole failed.
     ]
 
 pub returns-clause-sound : goal.returns-clause-sound
-returns-clause-sound g c = λ whole writes auths accts links threads recorders.
+returns-clause-sound g c = λ whole writes recorders devices.
     let written = g.T.Sink.written in
     let writer = c.begin.new.self in
     let base : TextBase = record { written = written writer.sink } in
@@ -88,11 +88,11 @@ returns-clause-sound g c = λ whole writes auths accts links threads recorders.
       | inl (not, stood) ↦ unstarted-sound _ _ _ not.because recorders
       | inr ran ↦ recorded-sound _ _ _ ran.given whole
           (ran-sound g.C.Clock.readings g.D.Datagrams.told g.L.In.LinkIn.told g.L.Out.LinkOut.told g.L.Dialer.told g.L.Dialer.made g.W.Crew.faults g.W.Crew.started
-          _ _ _ before read ran.ran auths accts links threads)
+          _ _ _ before read ran.ran devices.auth devices.acct devices.dialer devices.crew)
     ]
 
 pub returns-in-Err-clause-ends : goal.returns-in-Err-clause-ends
 returns-in-Err-clause-ends g c = rw (c.unrecorded.ensures, c.idle.ensures) (failed-known c.in-Err.status _ c.in-Err.ensures.failed)
 
 pub returns-in-Err-clause-sound : goal.returns-in-Err-clause-sound
-returns-in-Err-clause-sound g c = rw (c.unrecorded.ensures, c.idle.ensures) (λ whole writes auths accts links threads recorders. failed-sound c.in-Err.status _ c.in-Err.ensures.failed writes)
+returns-in-Err-clause-sound g c = rw (c.unrecorded.ensures, c.idle.ensures) (λ whole writes recorders devices. failed-sound c.in-Err.status _ c.in-Err.ensures.failed writes)

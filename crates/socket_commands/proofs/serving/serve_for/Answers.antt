@@ -15,11 +15,11 @@ returns-in_default-clause-wrote g c = λ same.
     absurd (early-writes c.serve-end.result.status _ _ _ _ _ _ (rw c.in_default.is at (c.serve-end.ensures.ran.early (before ++ c.now-first.result ∷ []) later)) same)
 
 pub returns-in_default-clause-sound : goal.returns-in_default-clause-sound
-returns-in_default-clause-sound g c = λ writes auths accts links threads.
+returns-in_default-clause-sound g c = λ writes devices.
     let (before, read) = told-before (g.C.Clock.readings c.args.world.clock) in
     let later = has-read-first _ _ before c.now-first.result read c.now-first.ensures in
     early-sound c.serve-end.result.status _ _ _ _ _ _ (rw c.in_default.is at (c.serve-end.ensures.ran.early (before ++ c.now-first.result ∷ []) later))
-    links (λ twin. either auths accts twin) threads
+    devices.dialer (λ twin. either devices.auth devices.acct twin) devices.crew
 
 pub returns-in_default-clause-ran : goal.returns-in_default-clause-ran
 returns-in_default-clause-ran g c = (
@@ -60,10 +60,10 @@ returns-clause-wrote g c =
     reported-wrote _ _ _ _ _ _ _ c.report-status.ensures (end-writes _ _ _ _ _ _ _ _ served.because)
 
 pub returns-clause-sound : goal.returns-clause-sound
-returns-clause-sound g c = λ writes auths accts links threads.
+returns-clause-sound g c = λ writes devices.
     let (before, read) = told-before (g.C.Clock.readings c.args.world.clock) in
     let later = has-read-first _ _ before c.now-first.result read c.now-first.ensures in
     let served = rw c.in-Some.is at (c.serve-end.ensures.ran.served (before ++ c.now-first.result ∷ []) later) in
     reported-sound _ _ _ _ _ _ _ c.report-status.ensures writes
-    (end-sound _ _ _ _ _ _ _ _ served.because (λ row. links (served.dials_failed row))
-    (λ s. either (λ row. auths (served.auth_failed row)) (λ row. accts (served.acct_failed row)) s) threads)
+    (end-sound _ _ _ _ _ _ _ _ served.because (λ row. devices.dialer (served.dials_failed row))
+    (λ s. either (λ row. devices.auth (served.auth_failed row)) (λ row. devices.acct (served.acct_failed row)) s) devices.crew)
