@@ -264,11 +264,14 @@ impl<C> AgentDesk<C> {
     fn tell<R: Wait>(&mut self, rt: &R, moment: u64, input: Input, idle: bool)
         ensures { Tells self.old self.new moment input idle }
     {
-        if idle {
+        let Some(sender) = &mut self.sender else {
             return;
-        }
-        if let Some(sender) = &mut self.sender {
-            sender.send(rt, Entry { moment, input });
+        };
+        match input {
+            // Nothing comes at the moment, so what came isn't held back.
+            Input::Tick if idle => sender.flush(rt),
+            _ if idle => {}
+            input => sender.send(rt, Entry { moment, input }),
         }
     }
 }

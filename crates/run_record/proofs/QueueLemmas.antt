@@ -1,5 +1,6 @@
 -- How a queue holds for one more turn, and what is known of it in the end.
 use Rattle.std.proofs.Common.{◌≡◌, ◌≢◌, ◌==◌, cond, true, false, ℕ, zero, suc, List, [], ◌∷◌, ◌++◌, flat_map, Option, Some, None, refl, sym, ap, ◌∙◌, append_assoc, append-nil, arith}
+use Rattle.std.specs.Option.{option_to_list}
 use Rattle.std.proofs.lemmas.List.{flat_map_more}
 use Rattle.turnstile.specs.Turns.{Numbered, StartsWith, Turn, of, plain}
 use Rattle.run_record.specs.declared.entry.Entry.{Entry}
@@ -17,22 +18,22 @@ push f turns turn = sym (flat_map_more f [] turns turn)
 
 -- ---- one more turn
 
-begins-put : (closed : Option ℕ) (old new : Queue) (turns : List QueueTurn) (entry : Entry) → new.closed ≡ closed
-    → (new.closed ≡ None → (old.closed ≡ None) × (new.entries ≡ old.entries ++ entry ∷ []))
+begins-put : (closed : Option ℕ) (old new : Queue) (turns : List QueueTurn) (more : List Entry) → new.closed ≡ closed
+    → (new.closed ≡ None → (old.closed ≡ None) × (new.entries ≡ old.entries ++ more))
     → (new.closed ≢ None → new.entries ≡ old.entries) → HoldsFor old turns
-    → StartsWith (puts turns ++ entry ∷ []) (takes turns ++ new.entries)
-begins-put None old new turns entry is kept same h =
+    → StartsWith (puts turns ++ more) (takes turns ++ new.entries)
+begins-put None old new turns more is kept same h =
     let (was, now) = kept is in (
       [],
-      ap (λ xs. xs ++ entry ∷ []) (sym (h.whole was)) ∙ append_assoc (takes turns) old.entries (entry ∷ []) ∙ ap (λ xs. takes turns ++ xs) (sym now)
+      ap (λ xs. xs ++ more) (sym (h.whole was)) ∙ append_assoc (takes turns) old.entries (more) ∙ ap (λ xs. takes turns ++ xs) (sym now)
           ∙ sym (append-nil (takes turns ++ new.entries)),
     )
-begins-put (Some moment) old new turns entry is kept same h =
+begins-put (Some moment) old new turns more is kept same h =
     let (rest, whole) = h.begins in
     let still : new.entries ≡ old.entries = same (λ none. cc (is, none)) in (
-      rest ++ entry ∷ [],
-      ap (λ xs. xs ++ entry ∷ []) whole ∙ append_assoc (takes turns ++ old.entries) rest (entry ∷ [])
-          ∙ ap (λ xs. (takes turns ++ xs) ++ (rest ++ entry ∷ [])) (sym still),
+      rest ++ more,
+      ap (λ xs. xs ++ more) whole ∙ append_assoc (takes turns ++ old.entries) rest (more)
+          ∙ ap (λ xs. (takes turns ++ xs) ++ (rest ++ more)) (sym still),
     )
 
 none-stopped : (turns : List QueueTurn) (turn : QueueTurn) → stop_at turn ≡ [] → stops turns ≡ [] → stops (turns ++ turn ∷ []) ≡ []
@@ -53,16 +54,17 @@ holds-still old new turns turn no_put no_take same opened h =
 
 pub holds-on : (old new : Queue) (turns : List QueueTurn) (ask : Asked) (given : Given) → Acts ask given.entries old new → HoldsFor old turns
     → HoldsFor new (turns ++ Some (ask, given) ∷ [])
-holds-on old new turns (Put entry) given (none, kept, same) h =
-    let turn : QueueTurn = Some (Put entry, given) in
-    let put : puts (turns ++ turn ∷ []) ≡ puts turns ++ entry ∷ [] = push put_at turns turn in
+holds-on old new turns (Put entries last) given (none, kept, same) h =
+    let turn : QueueTurn = Some (Put entries last, given) in
+    let more : List Entry = entries ++ option_to_list last in
+    let put : puts (turns ++ turn ∷ []) ≡ puts turns ++ more = push put_at turns turn in
     let took : takes (turns ++ turn ∷ []) ≡ takes turns = push taken_at turns turn ∙ append-nil (takes turns) in
-    let (rest, whole) = begins-put new.closed old new turns entry refl kept same h in
+    let (rest, whole) = begins-put new.closed old new turns more refl kept same h in
     record {
       begins = (rest, put ∙ whole ∙ ap (λ xs. (xs ++ new.entries) ++ rest) (sym took));
       whole = λ none.
-          ap (λ xs. xs ++ new.entries) took ∙ ap (λ xs. takes turns ++ xs) (kept none).1 ∙ sym (append_assoc (takes turns) old.entries (entry ∷ []))
-          ∙ ap (λ xs. xs ++ entry ∷ []) (h.whole (kept none).0) ∙ sym put;
+          ap (λ xs. xs ++ new.entries) took ∙ ap (λ xs. takes turns ++ xs) (kept none).1 ∙ sym (append_assoc (takes turns) old.entries (more))
+          ∙ ap (λ xs. xs ++ more) (h.whole (kept none).0) ∙ sym put;
       unstopped = λ none. none-stopped turns turn refl (h.unstopped (kept none).0);
     }
 holds-on old new turns (Take room) given (all, empty, closed) h =

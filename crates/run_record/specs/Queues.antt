@@ -1,5 +1,6 @@
 -- What was put into a queue and taken out of it, by the turns at its turnstile (profile).
 use Rattle.std.specs.Prelude.{◌≡◌, ◌≢◌, ℕ, List, [], ◌∷◌, ◌++◌, flat_map, Option, Some, None}
+use Rattle.std.specs.Option.{option_to_list}
 use Rattle.turnstile.specs.Turns.{StartsWith}
 use Rattle.run_record.specs.declared.entry.Entry.{Entry}
 use Rattle.run_record.specs.declared.queue.Asked.{Asked}
@@ -8,7 +9,7 @@ use Rattle.run_record.specs.declared.queue.Given.{Given}
 use Rattle.run_record.specs.declared.queue.Queue.{Queue}
 
 abbrev pub put_at : Option (Asked × Given) → List Entry
-put_at (Some (Put entry, given)) = entry ∷ []
+put_at (Some (Put entries last, given)) = entries ++ option_to_list last
 put_at turn = []
 
 abbrev pub taken_at : Option (Asked × Given) → List Entry
@@ -32,9 +33,9 @@ stops turns = flat_map stop_at turns
 
 -- what a step makes of a queue: of its entries and of its closing, and what it gives
 abbrev pub Acts : Asked → List Entry → Queue → Queue → Type 0
-Acts (Put entry) given old new =
+Acts (Put entries last) given old new =
     (given ≡ [])
-    × (new.closed ≡ None → (old.closed ≡ None) × (new.entries ≡ old.entries ++ entry ∷ []))
+    × (new.closed ≡ None → (old.closed ≡ None) × (new.entries ≡ old.entries ++ (entries ++ option_to_list last)))
     × (new.closed ≢ None → new.entries ≡ old.entries)
 Acts (Take room) given old new = (given ≡ old.entries) × (new.entries ≡ []) × (new.closed ≡ old.closed)
 Acts (Stop moment) given old new = (given ≡ []) × (new.entries ≡ old.entries) × (new.closed ≢ None)

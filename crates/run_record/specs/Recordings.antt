@@ -16,9 +16,10 @@ use Rattle.run_record.specs.declared.recorder.Recorder.{Recorder}
 use Rattle.run_record.specs.declared.recorder.RecorderEnd.{RecorderEnd}
 use Rattle.run_record.specs.Queues.{HoldsFor, puts, stops, takes}
 
--- what a sender was given, and the queue that it is of
+-- what a sender was given, what of it isn't in the queue yet, and the queue that it is of
 pub record Sending : Type 0 where
   pub told : List Entry
+  pub held : List Entry
   pub queue : TableId
 
 abbrev pub QueuePass : Type 0

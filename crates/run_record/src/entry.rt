@@ -1,6 +1,6 @@
 //! What a record is made of, and the device that writes it.
 
-ghost use Rattle.std.specs.Prelude.{◌≡◌, ℕ, List, [], ◌∷◌, ◌++◌, true, false};
+ghost use Rattle.std.specs.Prelude.{◌≡◌, ℕ, List, [], ◌∷◌, ◌++◌, true, false, IfOk, IfErr};
 ghost use Rattle.wire_core.specs.Counts.{Counts};
 ghost use Rattle.wire_core.specs.Sink.{PutFailed};
 
@@ -44,12 +44,23 @@ impl Entries {
         self.entries.as_slice()
     }
 
-    /// Puts an entry behind the others. False where memory was wanting: it is dropped then.
-    pub(crate) fn push(&mut self, entry: Entry) -> bool
-        ensures kept { result ≡ true → self.new ≡ self.old ++ entry ∷ [] }
-        ensures same { result ≡ false → self.new ≡ self.old }
+    /// Puts an entry behind the others. Without memory it comes back.
+    pub(crate) fn push(&mut self, entry: Entry) -> Result<(), Entry>
+        ensures kept { IfOk result (λ _. self.new ≡ self.old ++ entry ∷ []) }
+        ensures same { IfErr result (λ back. (self.new ≡ self.old) × (back ≡ entry)) }
     {
-        self.entries.push(entry).is_ok()
+        self.entries.push(entry).map_err(|failed| failed.value)
+    }
+
+    /// Puts these behind the others. It says whether there was memory, and gives the room of these, empty.
+    pub(crate) fn append(&mut self, more: Entries) -> (bool, Entries)
+        ensures kept { result.0 ≡ true → self.new ≡ self.old ++ more }
+        ensures same { result.0 ≡ false → self.new ≡ self.old }
+        ensures room { result.1 ≡ [] }
+    {
+        let mut entries = more.entries;
+        let appended = self.entries.append(&mut entries).is_ok();
+        (appended, Entries { entries }.cleared())
     }
 
     /// The room of these, empty.

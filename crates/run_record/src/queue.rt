@@ -1,6 +1,7 @@
 //! The queue of entries that are still to be written.
 
 ghost use Rattle.std.specs.Prelude.{◌≡◌, ◌≢◌, ◌++◌, [], ◌∷◌, None, true};
+ghost use Rattle.std.specs.Option.{option_to_list};
 ghost use Rattle.turnstile.specs.Passes.{known, table_of};
 ghost use Rattle.run_record.specs.Queues.{Acts, HoldsFor};
 ghost use Rattle.run_record.specs.Recordings.{Asks};
@@ -21,12 +22,19 @@ const ENTRY: usize = 64;
 /// What is asked of the queue.
 #[derive(Drop)]
 pub enum Asked {
-    /// Puts this entry behind the others.
-    Put { entry: Entry },
+    /// Puts these entries behind the others, and then the last one.
+    Put {
+        entries: Entries,
+        last: Option<Entry>,
+    },
     /// Takes all that wait, which shows that those taken before were written. `room` is where further ones are kept.
-    Take { room: Entries },
+    Take {
+        room: Entries,
+    },
     /// No further entry is kept, since this one couldn't be written.
-    Stop { moment: u64 },
+    Stop {
+        moment: u64,
+    },
     /// No further entry comes.
     End,
 }
@@ -34,7 +42,7 @@ pub enum Asked {
 /// What the queue answers.
 #[derive(Drop)]
 pub struct Given {
-    /// At a Take, all that waited.
+    /// At a Take, all that waited. Else none, at a Put in the room of those that were put in.
     pub entries: Entries,
     /// Whether no further entry comes.
     pub over: bool,
@@ -61,6 +69,15 @@ fn size_of(entry: &Entry) -> usize {
         }
         _ => ENTRY,
     }
+}
+
+/// How many octets these take.
+fn size_of_all(entries: &[Entry]) -> usize {
+    let mut size = 0usize;
+    for entry in entries {
+        size = size.saturating_add(size_of(entry));
+    }
+    size
 }
 
 /// The moment of the first of these.
@@ -113,19 +130,44 @@ impl Queue {
         }
     }
 
-    /// Puts an entry behind the others, or closes.
-    fn put(&mut self, entry: Entry)
+    /// Puts entries behind the others, or closes. It gives their room, empty.
+    fn put(&mut self, entries: Entries) -> Entries
         ensures kept { self.new.closed ≡ None
-            → (self.old.closed ≡ None) × (self.new.entries ≡ self.old.entries ++ entry ∷ []) }
+            → (self.old.closed ≡ None) × (self.new.entries ≡ self.old.entries ++ entries) }
         ensures begins { self.new.closed ≢ None → self.new.entries ≡ self.old.entries }
+        ensures room { result ≡ [] }
     {
-        let size = size_of(&entry);
-        let moment = entry.moment;
-        if self.has_room(size) && self.entries.push(entry) {
+        let Some(moment) = first_moment(entries.as_slice()) else {
+            return entries.cleared();
+        };
+        let size = size_of_all(entries.as_slice());
+        if !self.has_room(size) {
+            self.close(moment);
+            return entries.cleared();
+        }
+        let (appended, room) = self.entries.append(entries);
+        if appended {
             self.waiting = self.waiting.saturating_add(size);
         } else {
             self.close(moment);
         }
+        room
+    }
+
+    /// Puts entries and a last one behind the others, or closes. It gives their room, empty.
+    fn put_with(&mut self, mut entries: Entries, last: Option<Entry>) -> Entries
+        ensures kept { self.new.closed ≡ None → (self.old.closed ≡ None)
+            × (self.new.entries ≡ self.old.entries ++ (entries ++ option_to_list last)) }
+        ensures begins { self.new.closed ≢ None → self.new.entries ≡ self.old.entries }
+        ensures room { result ≡ [] }
+    {
+        if let Some(entry) = last {
+            if let Err(entry) = entries.push(entry) {
+                self.close(first_moment(entries.as_slice()).unwrap_or(entry.moment));
+                return entries.cleared();
+            }
+        }
+        self.put(entries)
     }
 
     /// Gives all that wait, and keeps further ones in this room.
@@ -143,7 +185,7 @@ impl Queue {
         ensures { Acts ask result self.old self.new }
     {
         match ask {
-            Asked::Put { entry } => self.put(entry),
+            Asked::Put { entries, last } => return self.put_with(entries, last),
             Asked::Take { room } => return self.take(room),
             Asked::Stop { moment } => self.close(moment),
             Asked::End => self.over = true,

@@ -7,7 +7,7 @@ ghost use Rattle.turnstile.specs.Turns.{StartsWith, of};
 ghost use Rattle.run_record.specs.Queues.{stops, takes};
 ghost use Rattle.run_record.specs.Recordings.{IsRecorderOf, IsSpent, IsWritten, writer_of};
 
-use crate::entry::EntryWriter;
+use crate::entry::{Entries, EntryWriter};
 use crate::queue::Queue;
 use crate::recorder::{Recorder, RecorderEnd};
 use crate::sender::EntrySender;
@@ -54,7 +54,13 @@ fn make_ends<E>(alloc: Global, writer: E) -> Result<(EntrySender, Recorder<E>), 
         pass: turnstile.split(&mut pass),
         writer,
     };
-    Ok((EntrySender { turnstile, pass }, recorder))
+    let sender = EntrySender {
+        turnstile,
+        pass,
+        alloc,
+        held: Entries::from_vec(Vec::new(alloc)),
+    };
+    Ok((sender, recorder))
 }
 
 /// Starts a thread that writes what the sender is given.
@@ -96,7 +102,7 @@ where
 
 /// Ends a queue at which nobody else is. It gives the moment of the first entry that wasn't kept or taken.
 fn close_queue(sender: EntrySender, theirs: Pass<Queue>) -> Option<u64>
-    requires { IsSpent sender.queue theirs }
+    requires { IsSpent sender.queue theirs × (sender.held ≡ []) }
     ensures begins { StartsWith sender.told (takes (of 3 (known theirs).seen)) }
     ensures whole { result ≡ None → sender.told ≡ takes (of 3 (known theirs).seen) }
     ensures unstopped { result ≡ None → stops (of 3 (known theirs).seen) ≡ [] }
@@ -104,6 +110,8 @@ fn close_queue(sender: EntrySender, theirs: Pass<Queue>) -> Option<u64>
     let EntrySender {
         turnstile,
         mut pass,
+        alloc: _,
+        held: _,
     } = sender;
     turnstile.join(&mut pass, theirs);
     let (queue, _) = turnstile.close(pass);
