@@ -11,8 +11,6 @@ mod datagrams;
 #[cfg(test)]
 mod links;
 #[cfg(test)]
-mod served_lines;
-#[cfg(test)]
 mod server;
 #[cfg(test)]
 mod turns;

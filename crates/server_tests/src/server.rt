@@ -3,8 +3,8 @@
 use agent_core::Core;
 use agent_events::Input;
 use agent_server::{AgentDesk, Heard};
-use octets::settings;
 use peer_machine::LinkCause;
+use settings::settings;
 use std::hash::RandomState;
 use std::sync::Wait;
 use std::test::Fail;
@@ -14,10 +14,13 @@ use wire_devices::MemoryClock;
 
 mod failing_devices;
 mod links;
+mod memory_runs;
 mod octets;
 mod recordings;
 mod records;
 mod runs;
+mod served_lines;
+mod settings;
 mod sockets;
 mod waiting;
 

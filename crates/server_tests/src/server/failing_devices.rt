@@ -1,10 +1,9 @@
 //! How runs over memory end, some of whose devices fail.
 
-ghost use Rattle.agent_settings.specs.Config.{InLimits};
-
-use super::octets::{CAPABLE, INCAPABLE, base, settings};
-use agent_server::{Finish, World, serve};
-use agent_settings::Config;
+use super::memory_runs::{CallPlans, ending, world};
+use super::octets::{CAPABLE, INCAPABLE, base};
+use super::settings::settings;
+use agent_server::serve;
 use agent_status::Status;
 use peer_machine::LinkCause;
 use std::alloc::{AllocError, Global};
@@ -14,7 +13,7 @@ use std::sync::Wait;
 use std::test::Fail;
 use std::thread::Threads;
 use wire_core::{NoMemory, Octets};
-use wire_devices::{Line, MemoryClock, MemoryDatagrams, MemoryDialer, SteadyLine, ThreadCrew};
+use wire_devices::{Line, MemoryClock, SteadyLine};
 
 /// The moment at which a run ends.
 const UNTIL: u64 = 100;
@@ -35,16 +34,6 @@ enum Fault {
     Start(usize),
 }
 
-/// The numbers of the calls of each kind that fail.
-#[derive(Drop)]
-struct CallPlans {
-    dials: Vec<usize>,
-    auth: Vec<usize>,
-    acct: Vec<usize>,
-    acct_twins: Vec<usize>,
-    starts: Vec<usize>,
-}
-
 /// The first so many calls fail too.
 fn fail_first(calls: &mut Vec<usize>, count: usize) -> Result<(), AllocError> {
     for call in 0..count {
@@ -62,13 +51,7 @@ fn fail_redials(calls: &mut Vec<usize>) -> Result<(), AllocError> {
 }
 
 fn plans(alloc: Global, fault: Fault) -> Result<CallPlans, AllocError> {
-    let mut plans = CallPlans {
-        dials: Vec::new(alloc),
-        auth: Vec::new(alloc),
-        acct: Vec::new(alloc),
-        acct_twins: Vec::new(alloc),
-        starts: Vec::new(alloc),
-    };
+    let mut plans = CallPlans::none(alloc);
     let filled = match fault {
         Fault::Nothing => Ok(()),
         Fault::Dials(count) => fail_first(&mut plans.dials, count),
@@ -123,53 +106,9 @@ fn only(alloc: Global, line: Line) -> Result<VecDeque<Line>, NoMemory> {
     Ok(lines)
 }
 
-/// How a run over these devices ends, and how many links its trail has, where there is one.
-fn end<R: Threads + Wait + Copy + Send + 'static>(
-    rt: R,
-    alloc: Global,
-    random: RandomState,
-    config: Config,
-    clock: MemoryClock,
-    lines: VecDeque<Line>,
-    plans: CallPlans,
-) -> (Status, Option<usize>)
-    requires { InLimits config }
-{
-    let CallPlans {
-        dials,
-        auth,
-        acct,
-        acct_twins,
-        starts,
-    } = plans;
-    let looks = VecDeque::new(alloc);
-    let no_looks = VecDeque::new(alloc);
-    let world = World {
-        clock,
-        auth: MemoryDatagrams::new(alloc, looks, auth, Vec::new(alloc), Vec::new(alloc)),
-        acct: MemoryDatagrams::new(alloc, no_looks, acct, Vec::new(alloc), acct_twins),
-        dialer: MemoryDialer::new(alloc, lines, dials),
-        crew: ThreadCrew::new(alloc, rt, starts),
-    };
-    let Finish {
-        status,
-        world,
-        trail,
-        home: _,
-    } = serve(&rt, alloc, random, config, world, UNTIL);
-    let World {
-        clock: _,
-        auth: _,
-        acct: _,
-        dialer: _,
-        crew: _,
-    } = world;
-    (status, trail.map(|trail| trail.links.as_slice().len()))
-}
-
 /// How a run ends in which these octets come on the only link, and this fails. Each look at the link costs a reading of the
 /// clock, so a link with so many quiet looks lasts longer than the run.
-fn ends<R: Threads + Wait + Copy + Send + 'static>(
+fn ends<R: Threads + Wait + Copy + Send + Drop + 'static>(
     rt: R,
     alloc: Global,
     random: RandomState,
@@ -181,7 +120,8 @@ fn ends<R: Threads + Wait + Copy + Send + 'static>(
     let plans = plans(alloc, fault)?;
     let lines = only(alloc, line(alloc, octets, quiet)?)?;
     let config = settings(alloc)?;
-    Ok(end(rt, alloc, random, config, clock, lines, plans))
+    let world = world(rt, alloc, clock, lines, plans);
+    Ok(ending(serve(&rt, alloc, random, config, world, UNTIL)))
 }
 
 #[test]
@@ -223,17 +163,10 @@ fn links_that_end_at_once_wear_a_run_out(rt: HostRuntime) -> Result<(), Fail> {
     let alloc = rt.alloc();
     let random = RandomState::new(&rt)?;
     let clock = clock(alloc, 0, 0)?;
-    let plans = plans(alloc, Fault::Nothing)?;
     let config = settings(alloc)?;
-    let end = end(
-        rt,
-        alloc,
-        random,
-        config,
-        clock,
-        VecDeque::new(alloc),
-        plans,
-    );
+    let plans = CallPlans::none(alloc);
+    let world = world(rt, alloc, clock, VecDeque::new(alloc), plans);
+    let end = ending(serve(&rt, alloc, random, config, world, UNTIL));
     let cause = LinkCause::Ended;
     assert!(rt; end == (Status::LinkEnded { cause }, Some(256)));
     Ok(())

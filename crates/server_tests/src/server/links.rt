@@ -10,7 +10,9 @@ use super::runs::{
 use super::waiting::WaitingOut;
 use agent_status::Status;
 use std::alloc::Global;
+use std::sync::Wait;
 use std::test::Fail;
+use std::thread::Threads;
 use wire_core::Octets;
 
 /// What happens in these runs besides: the agent's capabilities are sent on the second link, a request is sent again on it,
@@ -46,15 +48,26 @@ fn open_twice(play: &mut Play, first: First) -> Result<(), Fail> {
     play.link(&[], &[GREETED_SECOND])
 }
 
+/// Whether a run whose first link goes so has a second one, and nothing else.
+fn links_again<R: Threads + Wait + Copy + Send + Drop + 'static>(
+    rt: R,
+    host: HostRuntime,
+    first: First,
+) -> Result<bool, Fail> {
+    let mut play = Play::new(host, GREETED_SECOND)?;
+    open_twice(&mut play, first)?;
+    let ran = run(rt, play)?;
+    Ok(
+        ran.raised == GREETED_SECOND
+            && ran.status == Status::Done
+            && ran.trail.links.as_slice().len() == 2,
+    )
+}
+
 #[test]
 fn after_a_failed_link_another_is_dialled(rt: HostRuntime) -> Result<(), Fail> {
     for first in [First::CannotSend, First::CannotReceive, First::Ends] {
-        let mut play = Play::new(rt, GREETED_SECOND)?;
-        open_twice(&mut play, first)?;
-        let ran = run(rt, play)?;
-        assert!(rt; ran.raised == GREETED_SECOND);
-        assert!(rt; ran.status == Status::Done);
-        assert!(rt; ran.trail.links.as_slice().len() == 2);
+        assert!(rt; links_again(rt, rt, first)?);
     }
     Ok(())
 }
@@ -73,7 +86,7 @@ fn reopen(alloc: Global, play: &mut Play) -> Result<(), Fail> {
     )
 }
 
-/// What went out on the two links and to the access server.
+/// Whether the run ended well, and this went out on the two links and to the access server.
 fn is_sent_again(alloc: Global, ran: &Ran) -> Result<bool, Fail> {
     let [first, second] = ran.trail.links.as_slice() else {
         return Ok(false);
@@ -83,7 +96,8 @@ fn is_sent_again(alloc: Global, ran: &Ran) -> Result<bool, Fail> {
     let again = message(alloc, &AGAIN, 0, 1)?;
     let success = [datagram(alloc, SUCCESS)?];
     Ok(
-        has_sent(&first.link_out, 0, &greeting)
+        ran.status == Status::Done
+            && has_sent(&first.link_out, 0, &greeting)
             && has_sent(&second.link_out, 0, &next_greeting)
             && has_sent(&second.link_out, 1, &again)
             && ran.trail.auth_twin.handed() == success.as_slice(),
@@ -95,7 +109,6 @@ fn what_waits_is_sent_again_on_the_next_link(rt: HostRuntime) -> Result<(), Fail
     let mut play = Play::new(rt, REPLIED)?;
     reopen(rt.alloc(), &mut play)?;
     let ran = run(rt, play)?;
-    assert!(rt; ran.status == Status::Done);
     let again = is_sent_again(rt.alloc(), &ran);
     drop(ran);
     assert!(rt; again?);
@@ -133,7 +146,7 @@ fn reopen_twice(alloc: Global, play: &mut Play) -> Result<(), Fail> {
     )
 }
 
-/// What went out on the last two links, and the second reply.
+/// Whether the run ended well, and this went out on the last two links and as the second reply.
 fn is_found_late(alloc: Global, ran: &Ran) -> Result<bool, Fail> {
     let [_, second, third] = ran.trail.links.as_slice() else {
         return Ok(false);
@@ -144,7 +157,8 @@ fn is_found_late(alloc: Global, ran: &Ran) -> Result<bool, Fail> {
     let again = message(alloc, &SECOND_AGAIN, 0, 2)?;
     let reject = datagram(alloc, REJECT)?;
     Ok(
-        has_sent(&second.link_out, 1, &again)
+        ran.status == Status::Done
+            && has_sent(&second.link_out, 1, &again)
             && has_sent(&third.link_out, 1, &again)
             && *reply == reject,
     )
@@ -155,7 +169,6 @@ fn late_answer_is_found_by_its_new_number(rt: HostRuntime) -> Result<(), Fail> {
     let mut play = Play::new(rt, REPLIED)?;
     reopen_twice(rt.alloc(), &mut play)?;
     let ran = run(rt, play)?;
-    assert!(rt; ran.status == Status::Done);
     let late = is_found_late(rt.alloc(), &ran);
     drop(ran);
     assert!(rt; late?);

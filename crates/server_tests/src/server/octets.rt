@@ -1,28 +1,9 @@
-//! Settings, packets and messages of the tests. The octets were computed by a program of another kind, with its own MD5.
+//! Packets and messages of the tests. The octets were computed by a program of another kind, with its own MD5.
 
-ghost use Rattle.std.specs.Prelude.{◌≡◌, IfOk};
-ghost use Rattle.agent_settings.specs.Config.{InLimits};
-
-use agent_settings::{AddressList, Client, Clients, Config, is_client_in_limits, is_in_limits};
 use std::alloc::Global;
 use std::test::Fail;
-use wire_core::{NoMemory, Octets};
+use wire_core::Octets;
 use wire_devices::Datagram;
-
-/// The settings of `settings`, as text.
-pub(super) const SETTINGS: &[u8] = b"\
-host = \"agent.example\"
-realm = \"example\"
-address = \"192.0.2.1\"
-boot = 7
-
-[[clients]]
-name = \"nas1\"
-address = \"192.168.1.16\"
-secret = \"xyzzy5461\"
-origin_host = \"nas1.example\"
-origin_realm = \"example\"
-";
 
 /// Where the access server is.
 const ADDRESS: u32 = 0xc0a8_0110;
@@ -182,43 +163,4 @@ pub(super) fn datagram(alloc: Global, text: &str) -> Result<Datagram, Fail> {
         port: PORT,
         octets: octets(alloc, text)?,
     })
-}
-
-fn nas(alloc: Global) -> Result<Client, NoMemory> {
-    Ok(Client {
-        name: Octets::copy(alloc, b"nas1")?,
-        address: ADDRESS,
-        secret: Octets::copy(alloc, b"xyzzy5461")?,
-        origin_host: Octets::copy(alloc, b"nas1.example")?,
-        origin_realm: Octets::copy(alloc, b"example")?,
-        require_seal: false,
-        omit_keys: false,
-        nas: AddressList::from_vec(Vec::new(alloc)),
-    })
-}
-
-/// Settings with one client.
-pub(super) fn settings(alloc: Global) -> Result<Config, NoMemory>
-    ensures { IfOk result InLimits }
-{
-    agent_settings::client_keeps_limits();
-    let mut config = Config {
-        host: Octets::copy(alloc, b"agent.example")?,
-        realm: Octets::copy(alloc, b"example")?,
-        home_realm: Octets::copy(alloc, b"example")?,
-        address: 0xc000_0201,
-        boot: Some(7),
-        retention: 30_000,
-        patience: 30_000,
-        capacity: 64,
-        backlog: 64,
-        watchdog: 30_000,
-        clients: Clients::new(alloc),
-    };
-    let client = nas(alloc)?;
-    if !is_in_limits(&config) || !is_client_in_limits(&client) {
-        return Err(NoMemory);
-    }
-    config.clients.push(client)?;
-    Ok(config)
 }

@@ -1,11 +1,15 @@
 //! The command that records a run, and the replay of its record.
 
-use super::octets::{ACCEPTED, BEGUN, CAPABLE, LOGIN, SETTINGS, START, STRANGE};
+ghost use Rattle.std.specs.Prelude.{◌≡◌, IfOk};
+
+use super::octets::{ACCEPTED, BEGUN, CAPABLE, LOGIN, START, STRANGE};
 use super::runs::{
-    ASKED, ASKED_TWICE, GREETED, Play, REPLIED, SERVES, SERVING, Says, Stage, heard, set_up,
+    ASKED, ASKED_TWICE, GREETED, Play, REPLIED, Ran, SERVES, SERVING, Says, Stage, heard, left,
+    set_up,
 };
-use super::waiting::{UNTIL, WaitingClock, WaitingDialer, WaitingIn, WaitingOut, WaitingSocket};
-use agent_server::{Finish, Pair, Trail, World};
+use super::settings::SETTINGS;
+use super::waiting::{UNTIL, WaitingIn, WaitingOut, WaitingSocket};
+use agent_server::Pair;
 use agent_status::Status;
 use record_text::RecordText;
 use replay_command::replay;
@@ -119,16 +123,16 @@ struct Handed {
     link: String,
 }
 
-fn all_handed(
-    alloc: Global,
-    trail: &Trail<WaitingClock, WaitingSocket, WaitingIn, WaitingOut>,
-    auth: &WaitingSocket,
-    acct: &WaitingSocket,
-) -> Result<Handed, NoMemory> {
+/// Whether each socket handed something out.
+fn hands_out(handed: &Handed) -> bool {
+    !handed.auth.is_empty() && !handed.acct.is_empty()
+}
+
+fn all_handed(alloc: Global, ran: &Ran) -> Result<Handed, NoMemory> {
     Ok(Handed {
-        auth: of_socket(alloc, &trail.auth_twin, auth)?,
-        acct: of_socket(alloc, &trail.acct_twin, acct)?,
-        link: sent(alloc, trail.links.as_slice())?,
+        auth: of_socket(alloc, &ran.trail.auth_twin, &ran.auth)?,
+        acct: of_socket(alloc, &ran.trail.acct_twin, &ran.acct)?,
+        link: sent(alloc, ran.trail.links.as_slice())?,
     })
 }
 
@@ -141,69 +145,51 @@ struct Recording {
     handed: Handed,
 }
 
-/// What is kept of a run.
-fn kept<R: Drop>(
-    alloc: Global,
-    finish: Finish<WaitingClock, WaitingSocket, WaitingDialer, ThreadCrew<R>>,
-    sink: MemorySink,
-    closed: Option<u64>,
-) -> Result<Recording, Fail> {
-    let Finish {
-        status,
-        world,
-        trail,
-        home: _,
-    } = finish;
-    let World {
-        clock: _,
-        auth,
-        acct,
-        dialer: _,
-        crew: _,
-    } = world;
-    let handed = match &trail {
-        Some(trail) => all_handed(alloc, trail, &auth, &acct),
-        None => Err(NoMemory),
-    };
-    drop(trail);
-    drop(auth);
-    drop(acct);
-    Ok(Recording {
-        status,
-        closed,
-        sink,
-        handed: handed?,
-    })
+/// The devices of that run.
+fn stage<R: Threads + Wait + Copy + Send + 'static>(
+    rt: R,
+    host: HostRuntime,
+) -> Result<Stage<R>, Fail>
+    ensures rows { IfOk result (λ stage. (stage.world.auth.row ≡ 0) × (stage.world.acct.row ≡ 0)
+        × (stage.world.dialer.told.row ≡ 0)) }
+{
+    let mut play = Play::new(host, GREETED_THIRD | REPEATED | ACCT_REPEATED)?;
+    ask(host.alloc(), &mut play)?;
+    answer(&mut play)?;
+    set_up(rt, play)
 }
 
-/// Records that run. These writes fail.
+/// Records that run, to this sink.
 fn record<R: Threads + Wait + rt::Clock + Copy + Send + Drop + 'static>(
     rt: R,
     host: HostRuntime,
-    failing: &[usize],
+    sink: MemorySink,
 ) -> Result<Recording, Fail> {
-    let alloc = host.alloc();
-    let mut play = Play::new(host, GREETED_THIRD | REPEATED | ACCT_REPEATED)?;
-    ask(alloc, &mut play)?;
-    answer(&mut play)?;
-    let mut input = MemorySource::new(alloc, SETTINGS, 64, &[])?;
-    let tape = Tape {
-        writer: RecordText::new(rt, alloc, MemorySink::new(alloc, 8192, failing)?),
-        crew: ThreadCrew::new(alloc, rt, Vec::new(alloc)),
-    };
+    let mut input = MemorySource::new(host.alloc(), SETTINGS, 64, &[])?;
     let Stage {
         alloc,
         random,
         word: _,
         config: _,
         world,
-    } = set_up(rt, play)?;
+    } = stage(rt, host)?;
+    let tape = Tape {
+        writer: RecordText::new(rt, alloc, sink),
+        crew: ThreadCrew::new(alloc, rt, Vec::new(alloc)),
+    };
     let CommandEnd {
         finish,
         tape,
         closed,
     } = run_recorder(&rt, alloc, random, UNTIL, &mut input, world, tape);
-    kept(alloc, finish, tape.writer.sink, closed)
+    let ran = left(finish, 0)?;
+    let handed = all_handed(alloc, &ran)?;
+    Ok(Recording {
+        status: ran.status,
+        closed,
+        sink: tape.writer.sink,
+        handed,
+    })
 }
 
 /// What `replay` prints of these lines, which are a transcript.
@@ -232,25 +218,41 @@ fn is_all(alloc: Global, lines: &str, run: &Handed) -> Result<bool, NoMemory> {
     )
 }
 
+/// Whether the run ended well with its whole record, whose replay is what was handed out.
+fn is_replayed(alloc: Global, random: RandomState, run: &Recording) -> Result<bool, Fail> {
+    let output = replayed(alloc, random, run.sink.as_slice())?;
+    let all = is_all(alloc, str::from_utf8(output.as_slice())?, &run.handed)?;
+    Ok(all && run.status == Status::Done && run.closed.is_none() && hands_out(&run.handed))
+}
+
 #[test]
 fn a_record_is_replayed_to_what_was_handed_out(rt: HostRuntime) -> Result<(), Fail> {
-    let run = record(rt, rt, &[])?;
-    assert!(rt; run.status == Status::Done);
-    assert!(rt; run.closed.is_none());
-    assert!(rt; !run.handed.auth.is_empty() && !run.handed.acct.is_empty());
-    let output = replayed(rt.alloc(), RandomState::new(&rt)?, run.sink.as_slice())?;
-    assert!(rt; is_all(rt.alloc(), str::from_utf8(output.as_slice())?, &run.handed)?);
+    let random = RandomState::new(&rt)?;
+    let run = record(rt, rt, MemorySink::new(rt.alloc(), 8192, &[])?)?;
+    let is_replayed = is_replayed(rt.alloc(), random, &run);
+    drop(run);
+    assert!(rt; is_replayed?);
     Ok(())
 }
 
-/// The first write behind the settings fails in its middle: the run goes on, and nothing else is written.
+/// Whether the run went on to its end, and the record has its first lines alone.
+fn is_a_beginning(run: &Recording) -> bool {
+    let Ok(written) = str::from_utf8(run.sink.as_slice()) else {
+        return false;
+    };
+    run.status == Status::WriteFault
+        && run.closed == Some(0)
+        && hands_out(&run.handed)
+        && written.starts_with("agent ")
+        && written.lines().count() >= 3
+}
+
+/// The first write behind the settings fails in its middle.
 #[test]
 fn a_record_that_fails_is_a_beginning(rt: HostRuntime) -> Result<(), Fail> {
-    let run = record(rt, rt, &[1])?;
-    assert!(rt; run.status == Status::WriteFault);
-    assert!(rt; run.closed == Some(0));
-    assert!(rt; !run.handed.auth.is_empty() && !run.handed.acct.is_empty());
-    let written = str::from_utf8(run.sink.as_slice())?;
-    assert!(rt; written.starts_with("agent ") && written.lines().count() >= 3);
+    let run = record(rt, rt, MemorySink::new(rt.alloc(), 8192, &[1])?)?;
+    let is_a_beginning = is_a_beginning(&run);
+    drop(run);
+    assert!(rt; is_a_beginning);
     Ok(())
 }

@@ -1,10 +1,11 @@
 //! What is recorded of a run.
 
-ghost use Rattle.std.specs.Prelude.{⊤};
+ghost use Rattle.std.specs.Prelude.{◌≡◌, IfOk, ⊤};
+ghost use Rattle.agent_settings.specs.Config.{InLimits};
 
 use super::octets::{ACCEPTED, LOGIN};
 use super::runs::{ASKED, GREETED, Play, REPLIED, SERVES, SERVING, Says, Stage, heard, set_up};
-use super::waiting::UNTIL;
+use super::waiting::{UNTIL, WaitingClock, WaitingDialer, WaitingSocket};
 use agent_events::Input;
 use agent_server::{Finish, RecordedRun, World, record};
 use agent_status::Status;
@@ -111,34 +112,24 @@ struct Recorded {
     closed: Option<u64>,
 }
 
-/// Records that run with so many writes, and with a crew that refuses these starts.
-fn run_recorded<R: Threads + Wait + Copy + Send + 'static>(
+/// The devices of that run.
+fn stage<R: Threads + Wait + Copy + Send + 'static>(
     rt: R,
     host: HostRuntime,
-    writes: u32,
-    refused: &[usize],
-) -> Result<Recorded, Fail> {
+) -> Result<Stage<R>, Fail>
+    ensures limits { IfOk result (λ stage. InLimits stage.config) }
+    ensures rows { IfOk result (λ stage. (stage.world.auth.row ≡ 0) × (stage.world.acct.row ≡ 0)
+        × (stage.world.dialer.told.row ≡ 0)) }
+{
     let mut play = Play::new(host, REPEATED)?;
     ask(host.alloc(), &mut play)?;
-    let mut recorders = crew_refusing(rt, host.alloc(), refused)?;
-    let Stage {
-        alloc,
-        random,
-        word: _,
-        config,
-        world,
-    } = set_up(rt, play)?;
-    let notes = notes_of(host, writes);
-    let RecordedRun { finish, record } = record(
-        &rt,
-        alloc,
-        random,
-        config,
-        world,
-        UNTIL,
-        notes,
-        &mut recorders,
-    );
+    set_up(rt, play)
+}
+
+/// How a run ended.
+fn status_of<R: Drop>(
+    finish: Finish<WaitingClock, WaitingSocket, WaitingDialer, ThreadCrew<R>>,
+) -> Status {
     let Finish {
         status,
         world,
@@ -152,8 +143,36 @@ fn run_recorded<R: Threads + Wait + Copy + Send + 'static>(
         dialer: _,
         crew: _,
     } = world;
+    status
+}
+
+/// Records that run by these notes, and with a crew that refuses these starts.
+fn run_recorded<R: Threads + Wait + Copy + Send + Drop + 'static>(
+    rt: R,
+    host: HostRuntime,
+    notes: Notes,
+    refused: &[usize],
+) -> Result<Recorded, Fail> {
+    let mut recorders = crew_refusing(rt, host.alloc(), refused)?;
+    let Stage {
+        alloc,
+        random,
+        word: _,
+        config,
+        world,
+    } = stage(rt, host)?;
+    let RecordedRun { finish, record } = record(
+        &rt,
+        alloc,
+        random,
+        config,
+        world,
+        UNTIL,
+        notes,
+        &mut recorders,
+    );
     Ok(Recorded {
-        status,
+        status: status_of(finish),
         kinds: record.writer.kinds,
         closed: record.closed,
     })
@@ -164,7 +183,7 @@ fn run_recorded<R: Threads + Wait + Copy + Send + 'static>(
 /// handed over. All else was idle.
 #[test]
 fn entries_are_recorded_but_for_idle_ones(rt: HostRuntime) -> Result<(), Fail> {
-    let ran = run_recorded(rt, rt, u32::MAX, &[])?;
+    let ran = run_recorded(rt, rt, notes_of(rt, u32::MAX), &[])?;
     assert!(rt; ran.status == Status::Done);
     assert!(rt; ran.kinds.as_slice() == b"udmadmald".as_slice());
     assert!(rt; ran.closed.is_none());
@@ -174,11 +193,11 @@ fn entries_are_recorded_but_for_idle_ones(rt: HostRuntime) -> Result<(), Fail> {
 /// The service goes on without a record: but for that the run would be Done.
 #[test]
 fn a_record_that_fails_is_short(rt: HostRuntime) -> Result<(), Fail> {
-    let ran = run_recorded(rt, rt, 0, &[])?;
+    let ran = run_recorded(rt, rt, notes_of(rt, 0), &[])?;
     assert!(rt; ran.status == Status::WriteFault);
     assert!(rt; ran.kinds.is_empty());
     assert!(rt; ran.closed == Some(0));
-    let unstarted = run_recorded(rt, rt, 1, &[0])?;
+    let unstarted = run_recorded(rt, rt, notes_of(rt, 1), &[0])?;
     assert!(rt; unstarted.status == Status::NoThread);
     assert!(rt; unstarted.kinds.is_empty());
     Ok(())

@@ -3,7 +3,8 @@
 ghost use Rattle.std.specs.Prelude.{◌≡◌, IfOk};
 ghost use Rattle.agent_settings.specs.Config.{InLimits};
 
-use super::octets::{CAPABLE, base, datagram, message, settings};
+use super::octets::{CAPABLE, base, datagram, message};
+use super::settings::settings;
 use super::waiting::{
     Find, Finds, Look, Post, Script, UNTIL, WaitingClock, WaitingDialer, WaitingIn, WaitingOut,
     WaitingSocket, Word,
@@ -215,8 +216,35 @@ pub(super) fn set_up<R: Threads + Wait + Copy + Send + 'static>(
     })
 }
 
+/// What is left of a run that ended, in which these bits were raised.
+pub(super) fn left<R: Drop>(
+    finish: Finish<WaitingClock, WaitingSocket, WaitingDialer, ThreadCrew<R>>,
+    raised: u64,
+) -> Result<Ran, Fail> {
+    let Finish {
+        status,
+        world,
+        trail,
+        home: _,
+    } = finish;
+    let World {
+        clock: _,
+        auth,
+        acct,
+        dialer: _,
+        crew: _,
+    } = world;
+    Ok(Ran {
+        status,
+        raised,
+        auth,
+        acct,
+        trail: trail.ok_or("no trail")?,
+    })
+}
+
 /// Runs the server over these devices.
-pub(super) fn run<R: Threads + Wait + Copy + Send + 'static>(
+pub(super) fn run<R: Threads + Wait + Copy + Send + Drop + 'static>(
     rt: R,
     play: Play,
 ) -> Result<Ran, Fail> {
@@ -227,24 +255,6 @@ pub(super) fn run<R: Threads + Wait + Copy + Send + 'static>(
         config,
         world,
     } = set_up(rt, play)?;
-    let Finish {
-        status,
-        world,
-        trail,
-        home: _,
-    } = serve(&rt, alloc, random, config, world, UNTIL);
-    let World {
-        clock: _,
-        auth,
-        acct,
-        dialer: _,
-        crew: _,
-    } = world;
-    Ok(Ran {
-        status,
-        raised: word.load(Ordering::SeqCst),
-        auth,
-        acct,
-        trail: trail.ok_or("no trail")?,
-    })
+    let finish = serve(&rt, alloc, random, config, world, UNTIL);
+    left(finish, word.load(Ordering::SeqCst))
 }

@@ -37,14 +37,15 @@ fn ask_both(alloc: Global, play: &mut Play) -> Result<(), Fail> {
     )
 }
 
-/// The answers go out by the twins, and the kept replies by the sockets themselves.
+/// Whether the run ended well, the answers go out by the twins, and the kept replies by the sockets themselves.
 fn is_replied_by_port(alloc: Global, ran: &Ran) -> Result<bool, Fail> {
     let success = [datagram(alloc, SUCCESS)?];
     let started = [datagram(alloc, STARTED)?];
     let by_twins = ran.trail.auth_twin.handed() == success.as_slice()
         && ran.trail.acct_twin.handed() == started.as_slice();
     Ok(
-        by_twins
+        ran.status == Status::Done
+            && by_twins
             && ran.auth.handed() == success.as_slice()
             && ran.acct.handed() == started.as_slice(),
     )
@@ -55,7 +56,6 @@ fn each_port_has_its_replies(rt: HostRuntime) -> Result<(), Fail> {
     let mut play = Play::new(rt, REPEATED | ACCT_REPEATED)?;
     ask_both(rt.alloc(), &mut play)?;
     let ran = run(rt, play)?;
-    assert!(rt; ran.status == Status::Done);
     let by_port = is_replied_by_port(rt.alloc(), &ran);
     drop(ran);
     assert!(rt; by_port?);
@@ -74,8 +74,14 @@ fn ask(alloc: Global, play: &mut Play) -> Result<(), Fail> {
     )
 }
 
-fn is_success(alloc: Global, ran: &Ran) -> Result<bool, Fail> {
-    Ok(ran.auth.handed() == [datagram(alloc, SUCCESS)?].as_slice())
+/// Whether the run ended well, though the twin's send failed, and the socket handed out the success.
+fn is_kept(alloc: Global, ran: &Ran) -> Result<bool, Fail> {
+    let success = [datagram(alloc, SUCCESS)?];
+    Ok(
+        ran.status == Status::Done
+            && ran.trail.auth_twin.faults() == 1
+            && ran.auth.handed() == success.as_slice(),
+    )
 }
 
 #[test]
@@ -84,11 +90,9 @@ fn reply_that_could_not_be_sent_is_kept(rt: HostRuntime) -> Result<(), Fail> {
     ask(rt.alloc(), &mut play)?;
     play.auth.failing_sends = 1;
     let ran = run(rt, play)?;
-    assert!(rt; ran.status == Status::Done);
-    assert!(rt; ran.trail.auth_twin.faults() == 1);
-    let success = is_success(rt.alloc(), &ran);
+    let kept = is_kept(rt.alloc(), &ran);
     drop(ran);
-    assert!(rt; success?);
+    assert!(rt; kept?);
     Ok(())
 }
 
@@ -98,8 +102,9 @@ fn socket_that_fails_ends_the_run(rt: HostRuntime) -> Result<(), Fail> {
     let mut play = Play::new(rt, ACCT_REPEATED)?;
     play.acct.failing_receives = 16;
     let ran = run(rt, play)?;
-    assert!(rt; ran.status == Status::DatagramFault);
-    assert!(rt; ran.acct.faults() == 16);
+    let fails = ran.status == Status::DatagramFault && ran.acct.faults() == 16;
+    drop(ran);
+    assert!(rt; fails);
     Ok(())
 }
 
@@ -111,7 +116,9 @@ fn readers_run_beside_each_other(rt: HostRuntime) -> Result<(), Fail> {
     ask(rt.alloc(), &mut play)?;
     play.auth.insist();
     let ran = run(rt, play)?;
-    assert!(rt; ran.raised == GREETED | SERVING | ASKED | REPLIED | REPEATED);
-    assert!(rt; ran.status == Status::Done);
+    let all = GREETED | SERVING | ASKED | REPLIED | REPEATED;
+    let finds = ran.raised == all && ran.status == Status::Done;
+    drop(ran);
+    assert!(rt; finds);
     Ok(())
 }
