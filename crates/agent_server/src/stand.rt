@@ -1,6 +1,6 @@
 //! What a run has at hand before its workers: the turnstile, and the first link.
 
-ghost use Rattle.std.specs.Prelude.{◌≡◌, ◌+◌, ◌<◌, ◌≤◌, ◌⊎◌, [], ◌∷◌, length, vec_capacity, IfOk, IfErr, IfSome, Ok, Err, None};
+ghost use Rattle.std.specs.Prelude.{◌≡◌, ◌+◌, ◌<◌, ◌≤◌, ◌⊎◌, [], ◌∷◌, length, vec_capacity, IfOk, IfErr, IfSome, IfNone, Ok, Err, None};
 ghost use Rattle.std.specs.Arc.{arc_value};
 ghost use Rattle.wire_core.specs.Counts.{Rose};
 ghost use Rattle.agent_settings.specs.Config.{InLimits};
@@ -9,6 +9,7 @@ ghost use Rattle.turnstile.specs.Knowing.{Carries};
 ghost use Rattle.turnstile.specs.Passes.{known, table_of};
 ghost use Rattle.turnstile.specs.Turns.{of};
 ghost use Rattle.agent_server.specs.Desks.{HasRead, StandsBy};
+ghost use Rattle.wire_devices.specs.Sockets.{IsFreshSocket};
 ghost use Rattle.wire_devices.specs.Telling.{TellsOnly};
 ghost use Rattle.server_workers.specs.Running.{counted, ports_of};
 ghost use Rattle.agent_server.specs.Starting.{Alike, AreShares, BeganFrom, FirstFails, FirstOpened, IsRead, IsReady};
@@ -147,6 +148,22 @@ fn share<C: Clock + Drop, I: Drop, O: Drop>(
     }
 }
 
+/// Makes a twin of each socket.
+fn make_twins<D: Datagrams + Drop>(auth: &mut D, acct: &mut D) -> Option<Twins<D>>
+    ensures fresh { IfSome result (λ twins. IsFreshSocket (D.told twins.auth)
+        × IsFreshSocket (D.told twins.acct)) }
+    ensures alike { IfSome result (λ twins. Alike (D.told auth.old) (D.told auth.new)
+        × Alike (D.told acct.old) (D.told acct.new)) }
+    ensures ports { IfSome result
+        (λ twins. ports_of D.told twins ≡ ((D.told auth.old).port, (D.told acct.old).port)) }
+    ensures failed { IfNone result (Rose (D.told auth.old).faults (D.told auth.new).faults
+        ⊎ Rose (D.told acct.old).faults (D.told acct.new).faults) }
+{
+    let auth = auth.twin()?;
+    let acct = acct.twin()?;
+    Some(Twins { auth, acct })
+}
+
 /// The first link, opened, and a twin of each socket.
 pub(crate) struct FirstLink<D, I, O> {
     pub pair: Pair<I, O>,
@@ -202,14 +219,8 @@ where
         let _ = enter(rt, turnstile, pass, Input::Leave);
         return Err(Status::OutOfMemory);
     };
-    let Some(auth) = auth.twin() else {
+    let Some(twins) = make_twins(auth, acct) else {
         return Err(Status::DatagramFault);
     };
-    let Some(acct) = acct.twin() else {
-        return Err(Status::DatagramFault);
-    };
-    Ok(FirstLink {
-        pair,
-        twins: Twins { auth, acct },
-    })
+    Ok(FirstLink { pair, twins })
 }

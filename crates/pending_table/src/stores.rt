@@ -34,12 +34,16 @@ pub(crate) struct Number {
     pub(crate) number: u32,
 }
 
+type KeyIndex = IndexMap<SharedKey<'static, Key>, RowPlace, RandomState>;
+
+type NumberIndex = IndexMap<Number, u64, RandomState>;
+
 /// The rows that wait, by serial number, so in the order of taking, and the settled ones, in the order of settling.
 #[derive(Drop)]
 pub(crate) struct Stores {
     pub(crate) alloc: Global,
-    pub(crate) keys: IndexMap<SharedKey<'static, Key>, RowPlace, RandomState>,
-    pub(crate) numbers: IndexMap<Number, u64, RandomState>,
+    pub(crate) keys: KeyIndex,
+    pub(crate) numbers: NumberIndex,
     pub(crate) waiting: BTreeMap<u64, Row>,
     pub(crate) settled: VecDeque<(u64, Row)>,
     pub(crate) patience: u64,
@@ -66,12 +70,14 @@ impl Stores {
     {
         // One place more: a row goes in before the dead ones go out.
         let room = capacity as usize + 1;
+        let settled = VecDeque::with_capacity(alloc, room)?;
+        let (keys, numbers) = indexes(alloc, random, room)?;
         Ok(Stores {
             alloc,
-            keys: IndexMap::with_capacity_and_hasher(alloc, room, random)?,
-            numbers: IndexMap::with_capacity_and_hasher(alloc, room, random)?,
+            keys,
+            numbers,
             waiting: BTreeMap::new(alloc),
-            settled: VecDeque::with_capacity(alloc, room)?,
+            settled,
             patience,
             retention,
             dropped: 0,
@@ -396,8 +402,7 @@ impl Stores {
         if self.next == u64::MAX {
             return Err(NoMemory);
         }
-        let key = SharedKey::new(self.alloc, key)?;
-        let row = Row::new(self.alloc, key.share()?, entry)?;
+        let (key, row) = shared_row(self.alloc, key, entry)?;
         let number = row.number();
         self.prepare(row, moment, garbage)?;
         self.enter(key, number);
@@ -463,6 +468,32 @@ impl Stores {
     }
 }
 
+/// An index by key and one by number, both empty, each with this room.
+fn indexes(
+    alloc: Global,
+    random: RandomState,
+    room: usize,
+) -> Result<(KeyIndex, NumberIndex), NoMemory>
+    ensures { IfOk result (λ both. IsEmpty both.0 × IsEmpty both.1) }
+{
+    let keys = KeyIndex::with_capacity_and_hasher(alloc, room, random)?;
+    let numbers = NumberIndex::with_capacity_and_hasher(alloc, room, random)?;
+    Ok((keys, numbers))
+}
+
+/// The row of this key and entry, and the key, which is one with the row's, for the index.
+fn shared_row(
+    alloc: Global,
+    key: Key,
+    entry: Entry,
+) -> Result<(SharedKey<'static, Key>, Row), NoMemory>
+    ensures { IfOk result (λ made. (made.0 ≡ key) × (made.1 ≡ (key, entry))) }
+{
+    let key = SharedKey::new(alloc, key)?;
+    let row = Row::new(alloc, key.share()?, entry)?;
+    Ok((key, row))
+}
+
 /// Gives the live ones of the rows that wait this link and the numbers from 0 on, in their order.
 fn renumber(waiting: &mut BTreeMap<u64, Row>, patience: u64, retention: u64, link: u64, moment: u64)
     requires { length waiting.old.entries < 2 ^ 32 }
@@ -492,7 +523,7 @@ fn number_if(anew: bool, row: &mut Row, link: u64, number: u32) -> u32
 }
 
 /// Puts the number of each row that waits into the empty index.
-fn refill(numbers: &mut IndexMap<Number, u64, RandomState>, waiting: &BTreeMap<u64, Row>)
+fn refill(numbers: &mut NumberIndex, waiting: &BTreeMap<u64, Row>)
     requires empty { IsEmpty numbers.old }
     requires room { length waiting.now.entries ≤ spare numbers.old }
     requires apart { Pairs HasOtherNumber waiting.now.entries }

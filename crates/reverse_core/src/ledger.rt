@@ -1,7 +1,7 @@
 //! What is kept of the inputs so far.
 
 ghost use Rattle.std.specs.Prelude.{◌≡◌, ◌+◌, ◌<◌, ◌≤◌, ◌^◌, ◌++◌, [], ◌∷◌, Some, length, filter, find, cond, IfOk, IsSome, OnOk, OnErr};
-ghost use Rattle.indexmap.specs.IndexMap.{get, spare};
+ghost use Rattle.indexmap.specs.IndexMap.{get, spare, IsEmpty};
 ghost use Rattle.reverse_core.specs.declared.events.ReverseOutput.TheVariants.{Send};
 ghost use Rattle.reverse_core.specs.declared.key.Key.{Key};
 ghost use Rattle.reverse_core.specs.declared.requests.OpenRequest.{OpenRequest};
@@ -51,6 +51,20 @@ pub(crate) fn one(alloc: Global, output: ReverseOutput) -> Result<ReverseOutputs
     Ok(ReverseOutputs::from_vec(outputs))
 }
 
+/// What is kept before anything came in.
+fn nothing(alloc: Global) -> Result<(KeptAnswers, OpenRequests, Index), NoMemory>
+    ensures kept { IfOk result (λ p. p.0 ≡ record { dropped = 0; list = [] }) }
+    ensures open_ones { IfOk result (λ p. p.1 ≡ record { list = []; next = 0 }) }
+    ensures index { IfOk result (λ p. IsEmpty p.2) }
+{
+    let kept = KeptAnswers::new(alloc)?;
+    let open_ones = OpenRequests::new(alloc)?;
+    // One place more, so that no more room is made later.
+    let room = MOST + 1;
+    let index = IndexMap::with_capacity_and_hasher(alloc, room, BuildHasherDefault::new())?;
+    Ok((kept, open_ones, index))
+}
+
 /// Keeps the answer to a request that was open.
 pub(crate) fn keep(
     index: &mut Index,
@@ -92,13 +106,12 @@ impl Ledger {
         ensures empty { IfOk result (λ l. state_of l
             ≡ record { own = own; count = 0; open_ones = []; kept = []; moment = 0 }) }
     {
-        // One place more, so that no more room is made later.
-        let room = MOST + 1;
+        let (kept, open_ones, index) = nothing(alloc)?;
         Ok(Ledger {
             own,
-            index: IndexMap::with_capacity_and_hasher(alloc, room, BuildHasherDefault::new())?,
-            open_ones: OpenRequests::new(alloc)?,
-            kept: KeptAnswers::new(alloc)?,
+            index,
+            open_ones,
+            kept,
             moment: 0,
         })
     }
@@ -143,6 +156,31 @@ impl Ledger {
         let _ = self.index.insert(key, Standing::Open);
     }
 
+    /// Makes room for a request and gives what it takes to take it up: its key once more, for the index, and the output that
+    /// sends its packet.
+    fn prepare(
+        &mut self,
+        alloc: Global,
+        taken: &Taken,
+    ) -> Result<(SharedKey<'static, Key>, ReverseOutputs), NoMemory>
+        requires { IsSound self.old }
+        ensures key { IfOk result (λ p. p.0 ≡ taken.now.key) }
+        ensures outputs { IfOk result (λ p. p.1 ≡ Send taken.now.sent ∷ []) }
+        ensures room { OnOk result (0 < spare self.new.index) }
+        ensures fits { OnOk result (self.old.open_ones.next + 1 < 2 ^ 64) }
+        ensures sound { IsSound self.new }
+        ensures same { state_of self.new ≡ state_of self.old }
+    {
+        // As many are never taken up.
+        if self.open_ones.next() == u64::MAX {
+            return Err(NoMemory);
+        }
+        self.index.reserve(1)?;
+        let octets = Octets::copy(alloc, taken.sent.as_slice())?;
+        let outputs = one(alloc, ReverseOutput::Send { octets })?;
+        Ok((taken.key.share()?, outputs))
+    }
+
     /// Takes up a request.
     pub(crate) fn take(
         &mut self,
@@ -160,14 +198,7 @@ impl Ledger {
         ensures sound { IsSound self.new }
         ensures err { OnErr result (state_of self.new ≡ state_of self.old) }
     {
-        // As many are never taken up.
-        if self.open_ones.next() == u64::MAX {
-            return Err(NoMemory);
-        }
-        let key = taken.key.share()?;
-        let octets = Octets::copy(alloc, taken.sent.as_slice())?;
-        let outputs = one(alloc, ReverseOutput::Send { octets })?;
-        self.index.reserve(1)?;
+        let (key, outputs) = self.prepare(alloc, &taken)?;
         self.purge(moment);
         self.enter(key, taken, moment);
         Ok(outputs)

@@ -1,4 +1,4 @@
-use Rattle.std.proofs.Common.{◌≡◌, ◌∙◌, ◌+◌, ◌∷◌, [], ◌++◌, Some, None, Result, Ok, Err, OnOk, IsOk, IfOk, is_ok, is_some, if◌then◌else◌, Option, Bool, true, cond, ℕ, false, filter, nat_lt, ap, sym, subst, refl, arith, length}
+use Rattle.std.proofs.Common.{◌≡◌, ◌∙◌, ◌+◌, ◌++◌, Some, None, Result, Ok, Err, IsOk, IfOk, is_some, if◌then◌else◌, Option, cond, ℕ, false, ap, sym, subst}
 use Rattle.std.specs.HashMap.{get, hash_map_len}
 use Rattle.std.specs.List.{AllByRecursion}
 use Rattle.pending_table.specs.declared.stores.Number.{Number}
